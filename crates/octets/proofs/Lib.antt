@@ -1,0 +1,5 @@
+pub mod Steps
+pub mod Puts
+pub mod RoundTrip
+pub mod Spans
+pub mod Unique

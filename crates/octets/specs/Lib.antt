@@ -1,0 +1,5 @@
+pub mod Refusal
+pub mod Read
+pub mod Answers
+pub mod Write
+pub mod Ipv6
