@@ -11,7 +11,7 @@ use lib.Seq.{set-out, sets, sets-eq}
 use lib.Dec.{leb}
 use borrow.Author.Tests.{le-leb, lt-leb}
 use Rattle.octets.specs.Read.{choose}
-use Rattle.octets.specs.Write.{put, byteBytes, be16Bytes, be32Bytes, be64Bytes, le16Bytes, le32Bytes, le64Bytes}
+use Rattle.octets.specs.Write.{put, over, byteBytes, be16Bytes, be32Bytes, be64Bytes, le16Bytes, le32Bytes, le64Bytes}
 
 -- one run after another
 pub put-append : (at : ℕ) (cs bs l : List ℕ) → put at (cs ++ bs) l ≡ put (at + length cs) bs (put at cs l)
@@ -76,6 +76,13 @@ room-short a b x y p h e = rw (← p, lt-leb _ _ h) e
 
 pub room-enough : {A : Type 0} {r : A} {n : ℕ} (a b : ℕ) (x y : A) → n ≡ a → n ≤ b → r ≡ x → r ≡ choose (leb a b) x y
 room-enough a b x y p h e = rw (← p, le-leb _ _ h) e
+
+-- a writer's last step, where a call gave the length: its bytes stand at the front, and the rest is as it was
+pub written-over : {n : ℕ} (a : ℕ) (bs l m : List ℕ) → n ≡ a → n ≤ length l → length bs ≡ a → m ≡ put 0 bs l → m ≡ over a bs l
+written-over a bs l m p h q e =
+    let g : length bs ≤ length l = omega arith in
+    let f : a ≤ length l = omega arith in
+    rw (le-leb a (length l) f) (e ∙ put-front bs l g ∙ ap (λ k. bs ++ drop k l) q)
 
 pub case-put : {X : Type 0} (f : X → List ℕ) (y x : X) (at : ℕ) (l n : List ℕ) → y ≡ x → n ≡ put at (f x) l → n ≡ put at (f y) l
 case-put f y x at l n q e = e ∙ ap (λ z. put at (f z) l) (sym q)

@@ -1,16 +1,16 @@
 -- A reader gives back what a writer wrote. `Reads m bs x`: wherever the bytes bs stand, the reader m gives x and passes over just bs.
 -- A round trip is put together as the reader and the bytes are, field by field.
-use Prim.Native.Nat.{ℕ, _+_, _*_, _/_, _%_, _^_, _<_}
-use native.Mathlib.Nat.{add-assoc, add-zero}
+use Prim.Native.Nat.{ℕ, _+_, _*_, _/_, _%_, _^_, _≤_, _<_}
+use native.Mathlib.Nat.{add-assoc, add-zero, zero-add}
 use native.Mathlib.Omega.{arith}
 use mathlib.Core.List.{List, [], _∷_, _++_, append-assoc, append-nil}
 use mathlib.Core.Path.{_≡_, refl, sym, ap, subst, _∙_}
-use lib.ListN.{length, getD, length-append}
+use lib.ListN.{length, getD, drop, length-append}
 use lib.Seq.{getD-at}
 use lib.Dec.{ltb}
-use borrow.Author.Tests.{lt-ltb}
+use borrow.Author.Tests.{lt-ltb, le-leb}
 use Rattle.octets.specs.Read.{Answer, is, refused, Placed, Read, Reader, got, andThen, choose, _>>=_, give, byte, be16, be32, be64, le16, le32, le64}
-use Rattle.octets.specs.Write.{byteBytes, be16Bytes, be32Bytes, be64Bytes, le16Bytes, le32Bytes, le64Bytes}
+use Rattle.octets.specs.Write.{over, byteBytes, be16Bytes, be32Bytes, be64Bytes, le16Bytes, le32Bytes, le64Bytes}
 
 abbrev pub Reads : {A : Type 0} → Reader A → List ℕ → A → Type 0
 Reads m bs x = (p q : List ℕ) (n : ℕ) → length p ≡ n → m (p ++ (bs ++ q)) n ≡ got x (n + length bs)
@@ -24,6 +24,13 @@ reads-then m k cs bs x y f g p q n e =
 
 pub reads-map : {A B : Type 0} (m : Reader A) (f : A → B) (bs : List ℕ) (x : A) → Reads m bs x → Reads (_>>=_ m (λ a. give (f a))) bs (f x)
 reads-map m f bs x r p q n e = rw (r p q n e)
+
+pub reads-give : {A : Type 0} (x : A) → Reads (give x) [] x
+reads-give x p q n e = ap (λ z. got x z) (sym (add-zero n))
+
+-- at the front of the room that a writer of bs leaves
+pub emit-then-read : {A : Type 0} (m : Reader A) (bs : List ℕ) (x : A) (n : ℕ) (room : List ℕ) → Reads m bs x → length bs ≡ n → n ≤ length room → m (over n bs room) 0 ≡ got x n
+emit-then-read m bs x n room r l h = rw (le-leb n (length room) h) (r [] (drop n room) 0 refl ∙ ap (λ k. got x k) (zero-add (length bs) ∙ l))
 
 pub reads-byte : (x : ℕ) → Reads byte (byteBytes x) x
 unfolding byte byteBytes
