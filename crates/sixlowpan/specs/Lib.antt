@@ -1,1 +1,4 @@
 pub mod Dispatch
+pub mod Context
+pub mod IphcAnswers
+pub mod Iphc

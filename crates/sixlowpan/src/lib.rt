@@ -6,7 +6,10 @@
 //
 // Each reader equals a definition written from the RFC, on every input; each writer writes exactly the bytes that its
 // definition lists, or refuses, 7, and leaves the room as it was. What is written reads back (proofs/).
+pub mod context;
 pub mod dispatch;
+pub mod iphc;
+mod iphc_read;
 pub mod protocol;
 
 pub use dispatch::SixlowpanPacket;

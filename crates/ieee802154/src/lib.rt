@@ -1,0 +1,5 @@
+// stub
+pub mod addr;
+
+pub use addr::Address;
+pub use addr::AddressField;
