@@ -4,7 +4,7 @@ use Prim.Native.Nat.{ℕ, _≤_, _<_}
 use lib.Dec.{leb, ltb, eqb}
 use borrow.Author.Tests.{le-leb, lt-leb, lt-ltb, le-ltb, eq-eqb, ne-eqb}
 use mathlib.Core.Path.{_≡_, refl, sym, ap, _∙_}
-use mathlib.Core.Bool.{Bool, true, false}
+use mathlib.Core.Bool.{Bool, true, false, _&&_}
 use Rattle.octets.specs.Read.{Answer, is, refused, Placed, Read, got, andThen, choose}
 use Rattle.octets.specs.Refusal.{numberOf}
 use Rattle.octets.specs.Answers.{ofByte, ofWord, ofWide, ofLong, ofSkip}
@@ -89,6 +89,13 @@ if-told t x y p h e = rw (← p, h) e
 pub if-told-not : {A : Type 0} {r : A} {b : Bool} (t : Bool) (x y : A) → b ≡ t → b ≡ false → r ≡ y → r ≡ choose t x y
 if-told-not t x y p h e = rw (← p, h) e
 
+-- two tests, one after the other
+pub and-eq : {r : Bool} (a b : ℕ) (t : Bool) → a ≡ b → r ≡ t → r ≡ (eqb a b && t)
+and-eq a b t h e = rw (eq-eqb a b h) e
+
+pub and-ne : (a b : ℕ) (t : Bool) → (a ≡ b → ⊥) → false ≡ (eqb a b && t)
+and-ne a b t h = rw (ne-eqb a b h) refl
+
 -- a value that a call gave, in what is given
 pub give-told : {A : Type 0} (x y : A) (at : ℕ) → x ≡ y → got x at ≡ got y at
 give-told x y at p = ap (λ z. got z at) p
@@ -98,5 +105,7 @@ pub by-value : {X A : Type 0} (f : X → A) (k x : X) (r : A) → k ≡ x → r 
 by-value f k x r p e = e ∙ ap f p
 
 pub ruleset flags = (if-true, if-false, if-told, if-told-not)
+
+pub ruleset ands = (and-eq, and-ne)
 
 pub ruleset steps = (if-le, if-gt, if-lt, if-ge, if-eq, if-ne, on-byte, no-byte, on-word, no-word, on-wide, no-wide, on-long, no-long, on-skip, no-skip)

@@ -37,7 +37,7 @@ enum-told-3 : tie.Need-enum-told-3
 enum-told-3 c = search needs
 
 returns : tie.Need-returns
-returns c = search (case linkIid, case (λ a. linkIid (AddressField.Some a)), iphc-steps)
+returns c = search (case linkIid, iphc-steps)
 
 returns-2 : tie.Need-returns-2
 returns-2 c = search (case linkIid, case (λ a. linkIid (AddressField.Some a)), iphc-steps)

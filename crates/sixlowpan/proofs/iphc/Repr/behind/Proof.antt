@@ -33,11 +33,11 @@ returns c = search (iphc-steps, give-told)
 
 returns-2 : tie.Need-returns-2
 unfolding behind
-returns-2 c = search (iphc-steps, give-told)
+returns-2 c = search iphc-steps
 
 returns-3 : tie.Need-returns-3
 unfolding behind
-returns-3 c = search (iphc-steps, give-told)
+returns-3 c = search iphc-steps
 
 pub behind-spec : {M : Type 1} → statement M
 behind-spec =
