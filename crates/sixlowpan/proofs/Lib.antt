@@ -1,1 +1,2 @@
 pub mod IphcSteps
+pub mod IphcPuts

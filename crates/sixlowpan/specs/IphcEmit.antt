@@ -124,8 +124,19 @@ hopBytes h = choose (eqb (hopBits h) 0b00) (byteBytes h) []
 unfoldable pub baseWord : NextHeader → ℕ → Form → Form → ℕ
 baseWord n h s d = 0b011_11 * 2 ^ 11 + nextBit n * 2 ^ 10 + hopBits h * 2 ^ 8 + s .mode * 2 ^ 4 + d .mode
 
+-- what stands before the addresses
+abbrev pub frontLength : NextHeader → ℕ → ℕ
+frontLength n h = 2 + (nextLength n + hopLength h)
+
 unfoldable pub frontBytes : NextHeader → ℕ → Form → Form → List ℕ
 frontBytes n h s d = be16Bytes (baseWord n h s d) ++ (nextBytes n ++ hopBytes h)
+
+-- the inline bits of both addresses
+abbrev pub addressesLength : Form → Form → ℕ
+addressesLength s d = inlineLength (s .inline) + inlineLength (d .inline)
+
+unfoldable pub addressesBytes : Form → Form → List ℕ
+addressesBytes s d = inlineBytes (s .inline) ++ inlineBytes (d .inline)
 
 abbrev pub sourceForm : Repr → Form
 sourceForm r = srcForm (r .«src_addr») (r .«ll_src_addr»)
@@ -134,9 +145,7 @@ abbrev pub destForm : Repr → Form
 destForm r = dstForm (r .«dst_addr») (r .«ll_dst_addr»)
 
 unfoldable pub lengthOf : Repr → ℕ
-lengthOf r = 2 + nextLength (r .«next_header») + hopLength (r .«hop_limit») + inlineLength (sourceForm r .inline) + inlineLength (destForm r .inline)
+lengthOf r = frontLength (r .«next_header») (r .«hop_limit») + addressesLength (sourceForm r) (destForm r)
 
 unfoldable pub bytesOf : Repr → List ℕ
-bytesOf r =
-    frontBytes (r .«next_header») (r .«hop_limit») (sourceForm r) (destForm r)
-    ++ (inlineBytes (sourceForm r .inline) ++ inlineBytes (destForm r .inline))
+bytesOf r = frontBytes (r .«next_header») (r .«hop_limit») (sourceForm r) (destForm r) ++ addressesBytes (sourceForm r) (destForm r)

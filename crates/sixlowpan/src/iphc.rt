@@ -1,7 +1,15 @@
 // Compressed IPv6 headers (RFC 6282, 3).
 ghost use mathlib.Core.Path.{_≡_};
 ghost use Rattle.sixlowpan.specs.Iphc.{reprOf, behind, iphc};
+ghost use Rattle.octets.specs.Write.{ofWritten, wrote, over};
+ghost use Rattle.sixlowpan.specs.IphcEmit.{lengthOf, bytesOf};
 ghost use Rattle.sixlowpan.specs.IphcAnswers.{ofParsed};
+use super::iphc_emit::addresses_len;
+use super::iphc_emit::front_len;
+use super::iphc_emit::put_addresses;
+use super::iphc_emit::put_front;
+use super::iphc_form::dst_form;
+use super::iphc_form::src_form;
 use super::iphc_read::Addresses;
 use super::iphc_read::AddressesRead;
 use super::iphc_read::Base;
@@ -18,6 +26,7 @@ use octets::field::ByteField;
 use octets::field::WordField;
 use octets::ipv6::Ipv6Addr;
 use octets::refusal::Refusal;
+use octets::write::Written;
 
 // The fields of a header. The link-layer addresses decide how much of each IPv6 address is elided, so they are among them:
 // `read` restores elided bits from them and `emit` elides against them.
@@ -123,5 +132,41 @@ impl Repr {
             }
             FrontRead::Refused(e) => Parsed::Refused(e),
         }
+    }
+
+    // The length of the header that `emit` writes: at most 36 bytes.
+    pub fn buffer_len(self) -> usize
+        ensures { λ r. ⌜ r ≡ lengthOf self ⌝ }
+    {
+        let src_addr = self.src_addr;
+        let ll_src_addr = self.ll_src_addr;
+        let dst_addr = self.dst_addr;
+        let ll_dst_addr = self.ll_dst_addr;
+        let next_header = self.next_header;
+        let src = src_form(src_addr, ll_src_addr);
+        let dst = dst_form(dst_addr, ll_dst_addr);
+        front_len(next_header, self.hop_limit) + addresses_len(src, dst)
+    }
+
+    // Writes the header into the front of the room. Traffic class and flow label are always elided.
+    pub fn emit(self, buf: &mut [u8]) -> Written
+        ensures { λ r. ⌜ (ofWritten r ≡ wrote (lengthOf self) (now (buf .entry))) × (now (buf .exit) ≡ over (lengthOf self) (bytesOf self) (now (buf .entry))) ⌝ }
+    {
+        let src_addr = self.src_addr;
+        let ll_src_addr = self.ll_src_addr;
+        let dst_addr = self.dst_addr;
+        let ll_dst_addr = self.ll_dst_addr;
+        let next_header = self.next_header;
+        let hop_limit = self.hop_limit;
+        let src = src_form(src_addr, ll_src_addr);
+        let dst = dst_form(dst_addr, ll_dst_addr);
+        let front = front_len(next_header, hop_limit);
+        let n = front + addresses_len(src, dst);
+        if buf.len() < n {
+            return Written::Refused(Refusal::NoRoom);
+        }
+        put_front(buf, next_header, hop_limit, src, dst);
+        put_addresses(buf, front, src, dst);
+        Written::Bytes(n)
     }
 }

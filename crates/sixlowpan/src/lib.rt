@@ -9,6 +9,7 @@
 pub mod context;
 pub mod dispatch;
 pub mod iphc;
+mod iphc_emit;
 mod iphc_form;
 mod iphc_read;
 pub mod protocol;
