@@ -4,12 +4,13 @@ use Prim.Native.Nat.{ℕ, _+_, _*_, _/_, _%_, _^_, _≤_, _<_}
 use native.Mathlib.Nat.{add-assoc, add-zero, zero-add}
 use native.Mathlib.Omega.{arith}
 use mathlib.Core.List.{List, [], _∷_, _++_, append-assoc, append-nil}
+use mathlib.Core.Bool.{Bool, true, false}
 use mathlib.Core.Path.{_≡_, refl, sym, ap, subst, _∙_}
 use lib.ListN.{length, getD, drop, length-append}
 use lib.Seq.{getD-at}
 use lib.Dec.{ltb}
 use borrow.Author.Tests.{lt-ltb, le-leb}
-use Rattle.octets.specs.Read.{Answer, is, refused, Placed, Read, Reader, got, andThen, choose, _>>=_, give, byte, be16, be32, be64, le16, le32, le64}
+use Rattle.octets.specs.Read.{Answer, is, refused, Placed, Read, Reader, got, andThen, choose, branch, _>>=_, give, byte, be16, be32, be64, le16, le32, le64}
 use Rattle.octets.specs.Write.{over, byteBytes, be16Bytes, be32Bytes, be64Bytes, le16Bytes, le32Bytes, le64Bytes}
 
 abbrev pub Reads : {A : Type 0} → Reader A → List ℕ → A → Type 0
@@ -21,6 +22,21 @@ reads-then m k cs bs x y f g p q n e =
     let h : length (p ++ cs) ≡ l = length-append p cs ∙ ap (λ z. z + length cs) e in
     let d : l + length bs ≡ n + length (cs ++ bs) = omega (arith, length-append cs bs) in
     rw (append-assoc cs bs q, f p (bs ++ q) n e) (rw (← append-assoc p cs (bs ++ q), g (p ++ cs) q l h, d) refl)
+
+-- what follows takes no bytes
+pub reads-last : {A B : Type 0} (m : Reader A) (k : A → Reader B) (bs : List ℕ) (x : A) (y : B) → Reads m bs x → Reads (k x) [] y → Reads (_>>=_ m k) bs y
+reads-last m k bs x y f g = subst (λ z. Reads (_>>=_ m k) z y) (append-nil bs) (reads-then m k bs [] x y f g)
+
+-- one reader or another, by a test
+pub reads-if : {A : Type 0} (t : Bool) (m k : Reader A) (bs : List ℕ) (x : A) → t ≡ true → Reads m bs x → Reads (branch t m k) bs x
+reads-if t m k bs x h r p q n e = rw h (r p q n e)
+
+pub reads-if-not : {A : Type 0} (t : Bool) (m k : Reader A) (bs : List ℕ) (x : A) → t ≡ false → Reads k bs x → Reads (branch t m k) bs x
+reads-if-not t m k bs x h r p q n e = rw h (r p q n e)
+
+-- the value under another name
+pub reads-as : {A : Type 0} (m : Reader A) (bs : List ℕ) (x y : A) → x ≡ y → Reads m bs x → Reads m bs y
+reads-as m bs x y h r = subst (Reads m bs) h r
 
 pub reads-map : {A B : Type 0} (m : Reader A) (f : A → B) (bs : List ℕ) (x : A) → Reads m bs x → Reads (_>>=_ m (λ a. give (f a))) bs (f x)
 reads-map m f bs x r p q n e = rw (r p q n e)

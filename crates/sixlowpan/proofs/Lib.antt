@@ -1,2 +1,3 @@
 pub mod IphcSteps
 pub mod IphcPuts
+pub mod IphcRoundTrip

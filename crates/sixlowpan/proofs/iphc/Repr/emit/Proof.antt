@@ -20,7 +20,7 @@ add-n : tie.Need-add-n
 add-n c = search needs
 
 returns : tie.Need-returns
-returns c = (search (puts, emit-length), search (puts, written-over, emit-length, emit-bytes, length-bytes))
+returns c = (search (puts, emit-length), search (puts, written-over, emit-length))
 
 put-front-requires : tie.Need-put-front-requires
 put-front-requires c κs = search needs
