@@ -1,1 +1,4 @@
 pub mod Dispatch
+pub mod Nhc
+pub mod NhcExt
+pub mod NhcUdp
