@@ -4,8 +4,8 @@ ghost use Prim.Native.Nat.{_≤_, _<_};
 ghost use Rattle.octets.specs.Answers.{ofWord};
 ghost use Rattle.octets.specs.Write.{ofWritten, wrote, over, put};
 ghost use Rattle.sixlowpan.specs.Nhc.{ofNhc, nhcOf, nhc};
-ghost use Rattle.sixlowpan.specs.NhcExt.{ofExt, ofNext, idOf, eidOf, protocolOf, nextHeader, ext, extRest, extFirst, extLength, extBytes};
-ghost use Rattle.sixlowpan.specs.NhcUdp.{ofUdp, ofPorts, ofChecksum, port8, port4, bothPort4, formOf, port, ports, bothPorts, checksum, udp, udpRest, portWidth, portsWidth, portBytes, portsBytes, checksumBytes, udpFirst, udpLength, udpBytes};
+ghost use Rattle.sixlowpan.specs.NhcExt.{ofExt, ofNext, idOf, eidOf, protocolOf, nextHeader, ext, extRest, nhOf, nextWidth, nextBytes, extFirst, extLength, extBytes};
+ghost use Rattle.sixlowpan.specs.NhcUdp.{ofUdp, ofPorts, ofChecksum, port8, port4, bothPort4, formOf, port, ports, bothPorts, checksum, udp, udpRest, bitOf, portWidth, portsWidth, checksumWidth, portBytes, portsBytes, checksumBytes, udpFirst, udpLength, udpBytes};
 use super::protocol::IpProtocol;
 use super::protocol::NextHeader;
 use octets::cursor::ByteRead;
@@ -150,6 +150,35 @@ fn read_next(buf: &[u8], nh: u8, c: Cursor) -> NextRead
     }
 }
 
+// The bit NH.
+fn next_bit(next: NextHeader) -> u8
+    ensures { λ r. ⌜ (r ≡ nhOf next) × (r ≤ 1) ⌝ }
+{
+    match next {
+        NextHeader::Compressed => 1,
+        NextHeader::Uncompressed(_) => 0,
+    }
+}
+
+// How many bytes carry the next header.
+fn next_len(next: NextHeader) -> usize
+    ensures { λ r. ⌜ (r ≡ nextWidth (nhOf next)) × (r ≤ 1) ⌝ }
+{
+    match next {
+        NextHeader::Compressed => 0,
+        NextHeader::Uncompressed(_) => 1,
+    }
+}
+
+fn put_next(buf: &mut [u8], at: usize, next: NextHeader)
+    ensures { λ _. ⌜ now (buf .exit) ≡ put at (nextBytes next) (now (buf .entry)) ⌝ }
+{
+    match next {
+        NextHeader::Compressed => {}
+        NextHeader::Uncompressed(p) => put_byte(buf, at, p.0),
+    }
+}
+
 impl ExtHeaderRepr {
     // The header that stands at the front of the bytes, without its payload.
     pub fn parse(buf: &[u8]) -> ExtParsed
@@ -200,10 +229,7 @@ impl ExtHeaderRepr {
         ensures { λ r. ⌜ r ≡ extLength self ⌝ }
     {
         let next = self.next_header;
-        match next {
-            NextHeader::Compressed => 2,
-            NextHeader::Uncompressed(_) => 3,
-        }
+        1 + next_len(next) + 1
     }
 
     // 1110, EID and NH.
@@ -212,11 +238,7 @@ impl ExtHeaderRepr {
     {
         let id = self.ext_header_id;
         let next = self.next_header;
-        let eid = id.eid();
-        match next {
-            NextHeader::Compressed => 0b1110_0000 + eid * 2 + 1,
-            NextHeader::Uncompressed(_) => 0b1110_0000 + eid * 2,
-        }
+        0b1110_0000 + id.eid() * 2 + next_bit(next)
     }
 
     // Writes the header into the front of the room.
@@ -227,20 +249,11 @@ impl ExtHeaderRepr {
         if buf.len() < n {
             return Written::Refused(Refusal::NoRoom);
         }
-        let first = self.first();
         let next = self.next_header;
-        put_byte(buf, 0, first);
-        match next {
-            NextHeader::Compressed => {
-                put_byte(buf, 1, self.length);
-                Written::Bytes(n)
-            }
-            NextHeader::Uncompressed(p) => {
-                put_byte(buf, 1, p.0);
-                put_byte(buf, 2, self.length);
-                Written::Bytes(n)
-            }
-        }
+        put_byte(buf, 0, self.first());
+        put_next(buf, 1, next);
+        put_byte(buf, 1 + next_len(next), self.length);
+        Written::Bytes(n)
     }
 }
 
@@ -406,6 +419,26 @@ fn put_ports(buf: &mut [u8], p: u8, src: u16, dst: u16)
     put_port(buf, 1 + port_len(p == 0b10), p == 0b01, dst);
 }
 
+// The bit C.
+fn checksum_bit(sum: WordField) -> u8
+    ensures { λ r. ⌜ (r ≡ bitOf sum) × (r ≤ 1) ⌝ }
+{
+    match sum {
+        WordField::None => 1,
+        WordField::Some(_) => 0,
+    }
+}
+
+// How many bytes carry the checksum.
+fn checksum_len(sum: WordField) -> usize
+    ensures { λ r. ⌜ (r ≡ checksumWidth (bitOf sum)) × (r ≤ 2) ⌝ }
+{
+    match sum {
+        WordField::None => 0,
+        WordField::Some(_) => 2,
+    }
+}
+
 fn put_checksum(buf: &mut [u8], at: usize, sum: WordField)
     ensures { λ _. ⌜ now (buf .exit) ≡ put at (checksumBytes sum) (now (buf .entry)) ⌝ }
 {
@@ -464,11 +497,7 @@ impl UdpNhcRepr {
         ensures { λ r. ⌜ r ≡ udpLength self ⌝ }
     {
         let sum = self.checksum;
-        let n = ports_len(port_form(self.src_port, self.dst_port));
-        match sum {
-            WordField::None => 1 + n,
-            WordField::Some(_) => 1 + n + 2,
-        }
+        1 + ports_len(port_form(self.src_port, self.dst_port)) + checksum_len(sum)
     }
 
     // 11110, C and P.
@@ -476,11 +505,7 @@ impl UdpNhcRepr {
         ensures { λ r. ⌜ r ≡ udpFirst self ⌝ }
     {
         let sum = self.checksum;
-        let p = port_form(self.src_port, self.dst_port);
-        match sum {
-            WordField::None => 0b1111_0100 + p,
-            WordField::Some(_) => 0b1111_0000 + p,
-        }
+        0b1111_0000 + checksum_bit(sum) * 4 + port_form(self.src_port, self.dst_port)
     }
 
     // Writes the header into the front of the room.

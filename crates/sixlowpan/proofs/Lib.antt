@@ -1,0 +1,2 @@
+pub mod NhcSteps
+pub mod NhcPuts
