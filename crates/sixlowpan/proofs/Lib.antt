@@ -1,2 +1,6 @@
 pub mod NhcSteps
 pub mod NhcPuts
+pub mod NhcTrips
+pub mod NhcSpans
+pub mod NhcUnique
+pub mod NhcExamples

@@ -73,9 +73,13 @@ ext = do
   b ← byte
   branch (eqb (b / 16) 0b1110) (extRest b) (refuse 2)
 
--- ---- how many bytes carry the next header, and which
+-- ---- how many bytes carry the next header, and which they are
 abbrev pub nextWidth : ℕ → ℕ
 nextWidth nh = choose (eqb nh 0) 1 0
+
+-- how many bytes follow the first byte b
+abbrev pub extWidth : ℕ → ℕ
+extWidth b = nextWidth (b % 2) + 1
 
 abbrev pub nhOf : NextHeader → ℕ
 nhOf (Uncompressed p) = 0

@@ -89,7 +89,7 @@ abbrev pub bitOf : WordField → ℕ
 bitOf (WordField.Some x) = 0
 bitOf WordField.None = 1
 
--- how many bytes carry a port, the ports and the checksum
+-- ---- how many bytes carry a port, the ports and the checksum
 abbrev pub portWidth : Bool → ℕ
 portWidth short = choose short 1 2
 
@@ -99,7 +99,11 @@ portsWidth p = choose (eqb p 0b11) 1 (portWidth (eqb p 0b10) + portWidth (eqb p 
 abbrev pub checksumWidth : ℕ → ℕ
 checksumWidth elided = choose (eqb elided 0) 2 0
 
--- and which
+-- how many bytes follow the first byte b
+abbrev pub udpWidth : ℕ → ℕ
+udpWidth b = portsWidth (b % 4) + checksumWidth (b / 4 % 2)
+
+-- ---- the bytes that carry a port, the ports and the checksum
 unfoldable pub portBytes : Bool → ℕ → List ℕ
 portBytes short x = choose short (byteBytes (x % 256)) (be16Bytes x)
 
@@ -110,7 +114,7 @@ abbrev pub checksumBytes : WordField → List ℕ
 checksumBytes (WordField.Some x) = be16Bytes x
 checksumBytes WordField.None = []
 
--- the header's first byte, its length and its bytes
+-- ---- the header's first byte, its length and its bytes
 abbrev pub udpForm : UdpNhcRepr → ℕ
 udpForm h = formOf (h .«src_port») (h .«dst_port»)
 

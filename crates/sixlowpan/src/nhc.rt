@@ -131,7 +131,7 @@ pub enum ExtParsed {
     Refused(Refusal),
 }
 
-pub enum NextRead {
+enum NextRead {
     Field(NextHeader, Cursor),
     Refused(Refusal),
 }
@@ -270,17 +270,17 @@ pub enum UdpParsed {
     Refused(Refusal),
 }
 
-pub struct Ports {
-    pub src: u16,
-    pub dst: u16,
+struct Ports {
+    src: u16,
+    dst: u16,
 }
 
-pub enum PortsRead {
+enum PortsRead {
     Field(Ports, Cursor),
     Refused(Refusal),
 }
 
-pub enum ChecksumRead {
+enum ChecksumRead {
     Field(WordField, Cursor),
     Refused(Refusal),
 }
