@@ -3,10 +3,10 @@ use Prim.Native.Nat.{ℕ, _+_, _/_, _%_, _≤_}
 use mathlib.Core.List.{List}
 use native.Mathlib.Nat.{add-zero}
 use mathlib.Core.Bool.{Bool, true, false}
-use mathlib.Core.Path.{_≡_, ap, subst}
+use mathlib.Core.Path.{_≡_, subst}
 use lib.Dec.{eqb}
 use lib.ListN.{length}
-use Rattle.octets.specs.Read.{Reader, got, choose, branch, byte, be16, refuse, give, _>>=_}
+use Rattle.octets.specs.Read.{Reader, got, branch, byte, be16, refuse, give, _>>=_}
 use Rattle.octets.specs.declared.field.WordField.{WordField}
 use Rattle.octets.proofs.Spans.{Spans, First, spans-first, spans-then, spans-branch, spans-give, spans-refuse, spans-byte, spans-be16}
 use Rattle.sixlowpan.specs.NhcExt.{idOf, nextHeader, extRest, ext, nextWidth, extWidth}
@@ -14,7 +14,6 @@ use Rattle.sixlowpan.specs.NhcUdp.{port, bothPorts, ports, checksum, udp
 use Rattle.sixlowpan.specs.declared.protocol.NextHeader.the-variants.{Compressed, Uncompressed}
 use Rattle.sixlowpan.specs.declared.nhc.ExtHeaderRepr.{ExtHeaderRepr}
 use Rattle.sixlowpan.specs.declared.nhc.UdpNhcRepr.{UdpNhcRepr}
-use Rattle.sixlowpan.specs.declared.nhc.Ports.{Ports}
 
 -- ---- a field of which a value is made, two of them, and one behind a test
 spans-map : {A B : Type 0} (m : Reader A) (f : A → B) (k : ℕ) → Spans m k → Spans (_>>=_ m (λ a. give (f a))) k

@@ -2,7 +2,7 @@
 -- took its answer apart.
 use Prim.Native.Nat.{ℕ}
 use mathlib.Core.Path.{_≡_, refl, ap}
-use Rattle.octets.specs.Read.{Answer, is, refused, Placed, Read, got, andThen}
+use Rattle.octets.specs.Read.{Answer, refused, Placed, Read, got, andThen}
 use Rattle.octets.specs.Refusal.{numberOf}
 use Rattle.octets.specs.declared.refusal.Refusal.{Refusal}
 use Rattle.octets.specs.declared.cursor.Cursor.{Cursor}

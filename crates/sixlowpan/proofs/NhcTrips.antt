@@ -2,9 +2,9 @@
 -- header that `emit` leaves in any room.
 use Prim.Native.Nat.{ℕ, _+_, _*_, _/_, _%_, _≤_, _<_}
 use native.Mathlib.Omega.{arith}
-use mathlib.Core.List.{List, [], _∷_, _++_, append-nil}
+use mathlib.Core.List.{List, _++_}
 use mathlib.Core.Bool.{Bool, true, false, _&&_, false≢true}
-use mathlib.Core.Path.{_≡_, refl, sym, ap, subst, _∙_}
+use mathlib.Core.Path.{_≡_, refl, ap, subst, _∙_}
 use lib.Dec.{eqb}
 use lib.ListN.{length}
 use borrow.Author.Tests.{eqb-true, eq-eqb}
@@ -12,7 +12,7 @@ use Rattle.octets.specs.Read.{Reader, got, choose, branch, byte, be16, refuse, 
 use Rattle.octets.specs.Write.{over, byteBytes, be16Bytes}
 use Rattle.octets.specs.declared.field.WordField.{WordField}
 use Rattle.octets.proofs.RoundTrip.{Reads, reads-then, reads-map, reads-give, emit-then-read, reads-byte, reads-be16}
-use Rattle.sixlowpan.specs.NhcExt.{idOf, eidOf, nextHeader, extRest, ext, nhOf, nextBytes, extFirst, extLength, extBytes}
+use Rattle.sixlowpan.specs.NhcExt.{idOf, eidOf, nextHeader, extRest, ext, nhOf, nextBytes, extLength, extBytes}
 use Rattle.sixlowpan.specs.NhcUdp.{port, bothPorts, ports, checksum, udpRest, udp, port8, port4, bothPort4, formOf, bitOf, portBytes, portsBytes, checksumBytes, udpForm, udpFirst, udpLength, udpBytes}
 use Rattle.sixlowpan.specs.declared.protocol.NextHeader.{NextHeader}
 use Rattle.sixlowpan.specs.declared.protocol.NextHeader.the-variants.{Compressed, Uncompressed}

@@ -1,6 +1,6 @@
 -- Compressed IPv6 extension headers (RFC 6282, 4.2).
 use Prim.Native.Nat.{ℕ, _+_, _*_, _/_, _%_}
-use mathlib.Core.List.{List, [], _∷_, _++_}
+use mathlib.Core.List.{List, [], _++_}
 use lib.Dec.{eqb}
 use Rattle.octets.specs.Read.{Read, Reader, got, refused, choose, branch, give, refuse, byte, _>>=_}
 use Rattle.octets.specs.Refusal.{numberOf}

@@ -1,7 +1,7 @@
 -- Compressed UDP headers (RFC 6282, 4.3).
 use Prim.Native.Nat.{ℕ, _+_, _*_, _/_, _%_}
-use mathlib.Core.List.{List, [], _∷_, _++_}
-use mathlib.Core.Bool.{Bool, true, false, _&&_}
+use mathlib.Core.List.{List, [], _++_}
+use mathlib.Core.Bool.{Bool, _&&_}
 use lib.Dec.{eqb}
 use Rattle.octets.specs.Read.{Read, Reader, got, refused, choose, branch, give, refuse, byte, be16, _>>=_}
 use Rattle.octets.specs.Refusal.{numberOf}
@@ -67,12 +67,14 @@ udpRest b = do
   sum ← checksum (b / 4 % 2)
   give (record { «src_port» = both .src; «dst_port» = both .dst; checksum = sum })
 
+-- the fields stand in the order of the UDP header: source port, destination port, checksum
 unfoldable pub udp : Reader UdpNhcRepr
 udp = do
   b ← byte
   branch (eqb (b / 8) 0b11110) (udpRest b) (refuse 2)
 
 -- ---- writing: as few bits of the ports as the table allows; where either port alone may be shortened, the source is
+-- a port's first 8 bits are f0; its first 12 bits are f0b
 abbrev pub port8 : ℕ → Bool
 port8 x = eqb (x / 256) 0xf0
 

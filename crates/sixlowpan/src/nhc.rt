@@ -102,7 +102,7 @@ impl ExtHeaderId {
         }
     }
 
-    // The header's protocol number. Mobility has none here, as in the Rust.
+    // The header's protocol number. Mobility gives 0, as the Rust does: a listed difference.
     pub fn protocol(self) -> IpProtocol
         ensures { λ r. ⌜ r .0 ≡ protocolOf self ⌝ }
     {
