@@ -8,9 +8,12 @@ use Rattle.octets.specs.declared.refusal.Refusal.{Refusal}
 use Rattle.octets.specs.declared.cursor.Cursor.{Cursor}
 use Rattle.octets.specs.declared.field.WordField.{WordField}
 use Rattle.octets.proofs.Steps.{on-is, on-refused}
+use Rattle.sixlowpan.specs.Nhc.{ofNhc}
 use Rattle.sixlowpan.specs.NhcExt.{ofExt, ofNext}
 use Rattle.sixlowpan.specs.NhcUdp.{ofUdp, ofPorts, ofChecksum}
 use Rattle.sixlowpan.specs.declared.protocol.NextHeader.{NextHeader}
+use Rattle.sixlowpan.specs.declared.nhc.NhcPacket.{NhcPacket}
+use Rattle.sixlowpan.specs.declared.nhc.NhcAnswer.{NhcAnswer}
 use Rattle.sixlowpan.specs.declared.nhc.ExtHeaderId.{ExtHeaderId}
 use Rattle.sixlowpan.specs.declared.nhc.ExtHeaderRepr.{ExtHeaderRepr}
 use Rattle.sixlowpan.specs.declared.nhc.ExtParsed.{ExtParsed}
@@ -20,6 +23,12 @@ use Rattle.sixlowpan.specs.declared.nhc.UdpParsed.{UdpParsed}
 use Rattle.sixlowpan.specs.declared.nhc.Ports.{Ports}
 use Rattle.sixlowpan.specs.declared.nhc.PortsRead.{PortsRead}
 use Rattle.sixlowpan.specs.declared.nhc.ChecksumRead.{ChecksumRead}
+
+pub on-nhc : {B : Type 0} {r : Answer B} {y : NhcAnswer} {x : NhcPacket} (m : Answer NhcPacket) (k : NhcPacket → Answer B) → ofNhc y ≡ m → y ≡ NhcAnswer.Is x → r ≡ k x → r ≡ andThen m k
+on-nhc {x = x} m k p q e = on-is ofNhc (NhcAnswer.Is x) x m k refl p q e
+
+pub no-nhc : {B : Type 0} {y : NhcAnswer} {e : Refusal} (m : Answer NhcPacket) (k : NhcPacket → Answer B) → ofNhc y ≡ m → y ≡ NhcAnswer.Refused e → refused (numberOf e) ≡ andThen m k
+no-nhc {e = e} m k p q = on-refused ofNhc (NhcAnswer.Refused e) (numberOf e) m k refl p q
 
 pub on-ext : {B : Type 0} {r : Answer B} {y : ExtParsed} {h : ExtHeaderRepr} {n : ℕ} (m : Read ExtHeaderRepr) (k : Placed ExtHeaderRepr → Answer B) → ofExt y ≡ m → y ≡ ExtParsed.Header h n → r ≡ k (record { value = h; next = n }) → r ≡ andThen m k
 on-ext {h = h} {n = n} m k p q e = on-is ofExt (ExtParsed.Header h n) (record { value = h; next = n }) m k refl p q e
@@ -56,6 +65,6 @@ pub header-told : (x y : ExtHeaderId) (h : NextHeader) (n at : ℕ) → x ≡ y 
 header-told x y h n at p = ap (λ z. got (record { «ext_header_id» = z; «next_header» = h; length = n }) at) p
 
 -- for a caller that reads headers, and for the readers' own fields
-pub ruleset nhc-steps = (on-ext, no-ext, on-udp, no-udp)
+pub ruleset nhc-steps = (on-nhc, no-nhc, on-ext, no-ext, on-udp, no-udp)
 
 pub ruleset field-steps = (on-next, no-next, on-ports, no-ports, on-checksum, no-checksum, header-told)
