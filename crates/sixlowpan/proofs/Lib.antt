@@ -1,3 +1,9 @@
 pub mod IphcSteps
 pub mod IphcPuts
 pub mod IphcRoundTrip
+pub mod NhcSteps
+pub mod NhcPuts
+pub mod NhcTrips
+pub mod NhcSpans
+pub mod NhcUnique
+pub mod NhcExamples

@@ -12,6 +12,7 @@ pub mod iphc;
 mod iphc_emit;
 mod iphc_form;
 mod iphc_read;
+pub mod nhc;
 pub mod protocol;
 
 pub use dispatch::SixlowpanPacket;
