@@ -1,5 +1,0 @@
-// stub
-pub mod addr;
-
-pub use addr::Address;
-pub use addr::AddressField;
