@@ -163,7 +163,7 @@ impl Address {
 
 impl PanField {
     // A missing PAN is written as zero.
-    pub fn or_zero(self) -> Pan
+    pub(crate) fn or_zero(self) -> Pan
         ensures { λ r. ⌜ r .0 ≡ panOr self ⌝ }
     {
         match self {
@@ -175,7 +175,7 @@ impl PanField {
 
 impl AddressField {
     // How many bytes a header gives the address.
-    pub fn len(self) -> usize
+    pub(crate) fn len(self) -> usize
         ensures { λ r. ⌜ r ≡ fieldLength self ⌝ }
         ensures { λ r. ⌜ r ≤ 8 ⌝ }
     {
@@ -186,7 +186,7 @@ impl AddressField {
     }
 
     // The mode that announces the address.
-    pub fn mode(self) -> AddressingMode
+    pub(crate) fn mode(self) -> AddressingMode
         ensures { λ r. ⌜ r .0 ≡ modeOf self ⌝ }
     {
         match self {
@@ -200,7 +200,7 @@ impl AddressField {
     }
 
     // The address in a header, where its low byte is first; nothing of one that is absent.
-    pub fn put(self, buf: &mut [u8], at: usize)
+    pub(crate) fn put(self, buf: &mut [u8], at: usize)
         ensures { λ _. ⌜ now (buf .exit) ≡ put at (fieldBytes self) (now (buf .entry)) ⌝ }
     {
         match self {

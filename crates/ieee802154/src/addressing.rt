@@ -112,7 +112,7 @@ fn read_sides(
 }
 
 // The fields that the frame control field says are there; none where the frame type has no addressing.
-pub fn read_addressing(buf: &[u8], c: Cursor, k: Control) -> AddressingRead
+pub(crate) fn read_addressing(buf: &[u8], c: Cursor, k: Control) -> AddressingRead
     ensures { λ r. ⌜ ofAddressing r ≡ addressing k (now (buf .entry)) (c .at) ⌝ }
 {
     if k.has_addressing() {

@@ -38,7 +38,7 @@ fn auxiliary_len(b: u8) -> usize
 }
 
 // Passes over the header, where there is one.
-pub fn skip_auxiliary(buf: &[u8], c: Cursor, enabled: bool) -> Skipped
+pub(crate) fn skip_auxiliary(buf: &[u8], c: Cursor, enabled: bool) -> Skipped
     ensures { λ r. ⌜ ofSkip r ≡ auxiliary enabled (now (buf .entry)) (c .at) ⌝ }
 {
     if enabled {
