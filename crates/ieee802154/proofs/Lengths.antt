@@ -3,7 +3,7 @@ use Prim.Native.Nat.{ℕ, _+_, _*_, _≤_, _<_}
 use native.Mathlib.Omega.{arith}
 use mathlib.Core.List.{List}
 use mathlib.Core.Bool.{Bool, true, false}
-use mathlib.Core.Path.{_≡_, refl, sym, ap, _∙_}
+use mathlib.Core.Path.{_≡_, refl, sym, ap, subst, _∙_}
 use lib.ListN.{length, getD}
 use lib.Dec.{eqb, ltb}
 use Rattle.octets.specs.Read.{Answer, is, refused, Placed, Read, Reader, got, andThen, choose, branch, _>>=_, give, refuse, byte, le16, le64, skip}
@@ -83,3 +83,114 @@ unfolding addressing
 spans-addressing k =
     spans-branch (hasAddressing k) (sides (carried k) (k .«dst_addr_mode») (k .«src_addr_mode»)) (give _) (sidesWidth (carried k) (k .«dst_addr_mode») (k .«src_addr_mode»)) 0
     (λ s at a n h e. let w = spans-sides (carried k) (k .«dst_addr_mode») (k .«src_addr_mode») s at a n h e in omega arith) (spans-give _)
+
+-- ---- what a header that was read says of the bytes
+-- a reader after a reader: what the first gave, and what the rest gave from there
+pub record Split {A B : Type 0} (m : Reader A) (f : A → Reader B) (s : List ℕ) (at : ℕ) (b : B) (n : ℕ) : Type 0 where
+  pub part : A
+  pub after : ℕ
+  pub first : m s at ≡ got part after
+  pub rest : f part s after ≡ got b n
+
+split-go : {A B : Type 0} (m : Reader A) (f : A → Reader B) (s : List ℕ) (at : ℕ) (b : B) (n : ℕ) (r : Read A) → m s at ≡ r → andThen r (λ p. f (p .value) s (p .next)) ≡ got b n → Split m f s at b n
+split-go m f s at b n (is p) q e = record { part = p .value; after = p .next; first = q; rest = e }
+split-go m f s at b n (refused x) q e = not-refused _ x e
+
+pub split : {A B : Type 0} (m : Reader A) (f : A → Reader B) (s : List ℕ) (at : ℕ) (b : B) (n : ℕ) → _>>=_ m f s at ≡ got b n → Split m f s at b n
+split m f s at b n e = split-go m f s at b n (m s at) refl e
+
+-- what was given, and where it ends, are one each
+abbrev placed : {A : Type 0} → A → ℕ → Placed A
+placed a n = record { value = a; next = n }
+
+pub got-one : {A : Type 0} (a b : A) (m n : ℕ) → got a m ≡ got b n → (a ≡ b) × (m ≡ n)
+got-one a b m n e = let r : placed a m ≡ placed b n = cc in (ap (λ p. p .value) r, ap (λ p. p .next) r)
+
+-- the byte that was read stands at the place
+byte-go : (s : List ℕ) (at b n : ℕ) (t : Bool) → choose t (got (getD s at 0) (at + 1)) (refused 1) ≡ got b n → (b ≡ getD s at 0) × (n ≡ at + 1)
+byte-go s at b n true e = let g = got-one (getD s at 0) b (at + 1) n e in (sym (g .0), sym (g .1))
+byte-go s at b n false e = not-refused _ 1 e
+
+byte-at : (s : List ℕ) (at b n : ℕ) → byte s at ≡ got b n → (b ≡ getD s at 0) × (n ≡ at + 1)
+unfolding byte
+byte-at s at b n e = byte-go s at b n (ltb at (length s)) e
+
+le16-at : (s : List ℕ) (w n : ℕ) → le16 s 0 ≡ got w n → (w ≡ getD s 0 0 + getD s 1 0 * 256) × (n ≡ 2)
+unfolding le16
+le16-at s w n e =
+    let x = split byte (λ lo. _>>=_ byte (λ hi. give (lo + hi * 256))) s 0 w n e in
+    let y = split byte (λ hi. give (x .part + hi * 256)) s (x .after) w n (x .rest) in
+    let p = byte-at s 0 (x .part) (x .after) (x .first) in
+    let q = byte-at s (x .after) (y .part) (y .after) (y .first) in
+    let z = got-one (x .part + y .part * 256) w (y .after) n (y .rest) in
+    let g : getD s (x .after) 0 ≡ getD s 1 0 = ap (λ i. getD s i 0) (p .1) in
+    omega arith
+
+-- what was read after a frame control field k
+pub record HeaderIn (k : Control) (s : List ℕ) (h : Repr) (n : ℕ) : Type 0 where
+  pub sequence : ℕ
+  pub fields : Addressing
+  pub is-supported : supported k ≡ true
+  pub fields-read : addressing k s 3 ≡ got fields (3 + addressingWidth k)
+  pub fields-within : 3 + addressingWidth k ≤ length s
+  pub auxiliary-read : auxiliary (k .«security_enabled») s (3 + addressingWidth k) ≡ got tt n
+  pub is-header : h ≡ reprOf k sequence fields
+
+rest-go : (k : Control) (q : ℕ) (s : List ℕ) (h : Repr) (n : ℕ) (t : Bool) → supported k ≡ t → 3 ≤ length s → choose t (_>>=_ (addressing k) (λ a. _>>=_ (auxiliary (k .«security_enabled»)) (λ u. give (reprOf k q a))) s 3) (refused 3) ≡ got h n → HeaderIn k s h n
+rest-go k q s h n true t l e =
+    let x = split (addressing k) (λ a. _>>=_ (auxiliary (k .«security_enabled»)) (λ u. give (reprOf k q a))) s 3 h n e in
+    let y = split (auxiliary (k .«security_enabled»)) (λ u. give (reprOf k q (x .part))) s (x .after) h n (x .rest) in
+    let w = spans-addressing k s 3 (x .part) (x .after) l (x .first) in
+    let z = got-one (reprOf k q (x .part)) h (y .after) n (y .rest) in
+    record {
+      sequence = q;
+      fields = x .part;
+      is-supported = t;
+      fields-read = x .first ∙ ap (λ i. got (x .part) i) (w .0);
+      fields-within = omega arith;
+      auxiliary-read = subst (λ i. auxiliary (k .«security_enabled») s i ≡ got tt n) (w .0) (y .first ∙ ap (λ i. got tt i) (z .1));
+      is-header = sym (z .0);
+    }
+rest-go k q s h n false t l e = not-refused _ 3 e
+
+rest-in : (k : Control) (q : ℕ) (s : List ℕ) (h : Repr) (n : ℕ) → 3 ≤ length s → headerRest k q s 3 ≡ got h n → HeaderIn k s h n
+unfolding headerRest
+rest-in k q s h n l e = rest-go k q s h n (supported k) refl l e
+
+pub header-in : (s : List ℕ) (h : Repr) (n : ℕ) → header s 0 ≡ got h n → HeaderIn (controlIn s) s h n
+unfolding header
+header-in s h n e =
+    let x = split le16 (λ fc. _>>=_ byte (λ q. headerRest (controlOf fc) q)) s 0 h n e in
+    let y = split byte (λ q. headerRest (controlOf (x .part)) q) s (x .after) h n (x .rest) in
+    let p = le16-at s (x .part) (x .after) (x .first) in
+    let l = spans-le16 s 0 (x .part) (x .after) (omega arith) (x .first) in
+    let v = spans-byte s (x .after) (y .part) (y .after) (l .1) (y .first) in
+    let d : y .after ≡ 3 = omega arith in
+    subst (λ w. HeaderIn (controlOf w) s h n) (p .0) (rest-in (controlOf (x .part)) (y .part) s h n (omega arith) (rw d at (y .rest)))
+
+-- ---- the length
+auxiliary-go : (t : Bool) (s : List ℕ) (at n : ℕ) → at ≤ length s → auxiliary t s at ≡ got tt n → (n ≡ at + auxiliaryWidth t s at) × (n ≤ length s)
+unfolding auxiliary
+auxiliary-go true s at n h e =
+    let x = split byte (λ b. skip (auxiliaryLength b)) s at tt n e in
+    let p = byte-at s at (x .part) (x .after) (x .first) in
+    let v = spans-byte s at (x .part) (x .after) h (x .first) in
+    let w = spans-skip (auxiliaryLength (x .part)) s (x .after) tt n (v .1) (x .rest) in
+    let g : auxiliaryLength (x .part) ≡ auxiliaryLength (getD s at 0) = ap (λ b. auxiliaryLength b) (p .0) in
+    omega arith
+auxiliary-go false s at n h e = spans-give tt s at tt n h e
+
+-- the length that `parse` answers: the sum of the widths, and not past the end
+pub header-length : (s : List ℕ) (h : Repr) (n : ℕ) → header s 0 ≡ got h n → (n ≡ headerLength s) × (n ≤ length s)
+header-length s h n e =
+    let x = header-in s h n e in
+    auxiliary-go (controlIn s .«security_enabled») s (3 + addressingWidth (controlIn s)) n (x .fields-within) (x .auxiliary-read)
+
+mac-go : (s : List ℕ) (h : Repr) (n : ℕ) (t u : Bool) → choose t (refused 1) (choose u (refused 4) (header s 0)) ≡ got h n → header s 0 ≡ got h n
+mac-go s h n true u e = not-refused _ 1 e
+mac-go s h n false true e = not-refused _ 4 e
+mac-go s h n false false e = e
+
+pub mac-length : (s : List ℕ) (h : Repr) (n : ℕ) → mac s ≡ got h n → (n ≡ headerLength s) × (n ≤ length s)
+unfolding mac
+mac-length s h n e = header-length s h n (mac-go s h n (ltb (length s) 3) (ltb 127 (length s)) e)

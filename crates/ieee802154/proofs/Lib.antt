@@ -1,6 +1,6 @@
 pub mod ReadSteps
 pub mod WriteSteps
-pub mod HeaderSteps
 pub mod Unique
 pub mod Lengths
+pub mod HeaderSteps
 pub mod Examples
