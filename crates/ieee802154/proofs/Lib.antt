@@ -4,3 +4,4 @@ pub mod Unique
 pub mod Lengths
 pub mod HeaderSteps
 pub mod Examples
+pub mod RoundTrips

@@ -3,3 +3,4 @@ pub mod Control
 pub mod Addressing
 pub mod Security
 pub mod Mac
+pub mod RoundTrips
