@@ -1,6 +1,7 @@
 -- Written, then read: exactly the headers that `roundTrips` admits come back as they were, with just the bytes written, wherever these stand
 -- and whatever follows.
 use Prim.Native.Nat.{ℕ, _+_, _*_, _/_, _%_, _^_, _≤_, _<_}
+use native.Mathlib.Nat.{zero-add}
 use native.Mathlib.Omega.{arith}
 use mathlib.Core.List.{List, [], _∷_, _++_, append-assoc}
 use mathlib.Core.Bool.{Bool, true, false, not, _&&_}
@@ -315,3 +316,24 @@ suffices h e =
     subst (λ bs. Reads header bs h) (bytes-are h)
     (reads-then le16 (λ fc. _>>=_ byte (λ s. headerRest (controlOf fc) s)) (le16Bytes (wordOf k)) (byteBytes q ++ afterSequence h) (wordOf k) h (reads-le16 (wordOf k))
     (reads-then byte (λ s. headerRest (controlOf (wordOf k)) s) (byteBytes q) (afterSequence h) q h (reads-byte q) (rw same-control (reads-rest h d))))
+
+-- ---- as the frame's whole bytes, and in the room that `emit` leaves
+mac-is : (s : List ℕ) → 3 ≤ length s → length s ≤ 127 → mac s ≡ header s 0
+unfolding mac
+mac-is s l u = rw (le-ltb (length s) 3 l, le-ltb 127 (length s) u)
+
+length-least : (h : Repr) → 5 ≤ lengthOf h
+unfolding lengthOf
+length-least h = go (h .«pan_id_compression») (fieldLength (h .«dst_addr») + fieldLength (h .«src_addr»))
+  where
+    go : (c : Bool) (n : ℕ) → 5 ≤ choose c 5 7 + n
+    go true n = omega arith
+    go false n = omega arith
+
+pub reads-back : (h : Repr) (payload : List ℕ) → roundTrips h ≡ true → lengthOf h + length payload ≤ 127 → mac (bytesOf h ++ payload) ≡ got h (lengthOf h)
+reads-back h payload e l =
+    let n : length (bytesOf h ++ payload) ≡ lengthOf h + length payload = length-append (bytesOf h) payload ∙ ap (λ k. k + length payload) (length-bytes h) in
+    mac-is (bytesOf h ++ payload) (omega (arith, length-least h)) (omega arith) ∙ suffices h e [] payload 0 refl ∙ ap (λ k. got h k) (zero-add (length (bytesOf h)) ∙ length-bytes h)
+
+pub emit-then-parse : (h : Repr) (room : List ℕ) → roundTrips h ≡ true → lengthOf h ≤ length room → length room ≤ 127 → mac (over (lengthOf h) (bytesOf h) room) ≡ got h (lengthOf h)
+emit-then-parse h room e l u = rw (le-leb (lengthOf h) (length room) l) (reads-back h (drop (lengthOf h) room) e (omega (arith, length-drop (lengthOf h) room)))
