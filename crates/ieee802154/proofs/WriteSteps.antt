@@ -1,0 +1,66 @@
+-- The steps of the writers, for `search`; and the length of what each writes.
+use Prim.Native.Nat.{ℕ, _+_}
+use native.Mathlib.Omega.{arith}
+use mathlib.Core.List.{List, _++_}
+use mathlib.Core.Bool.{Bool, true, false}
+use mathlib.Core.Path.{_≡_, refl, sym, ap, _∙_}
+use lib.ListN.{length, length-append}
+use Rattle.octets.specs.Read.{choose}
+use Rattle.octets.specs.Write.{put, byteBytes, be16Bytes, be32Bytes, be64Bytes, le16Bytes, le32Bytes, le64Bytes}
+use Rattle.octets.proofs.Puts.{more}
+use Rattle.ieee802154.specs.Address.{addressLength, addressBytes}
+use Rattle.ieee802154.specs.Addressing.{modeOf, fieldLength, fieldBytes}
+use Rattle.ieee802154.specs.Control.{wordOf}
+use Rattle.ieee802154.specs.Mac.{controlWith, controlFor, lengthOf, frontBytes, sourceBytes, backBytes, bytesOf}
+use Rattle.ieee802154.specs.declared.addr.Address.{Address}
+use Rattle.ieee802154.specs.declared.addr.Address.the-variants.{Absent, Short, Extended}
+use Rattle.ieee802154.specs.declared.addr.AddressField.{AddressField}
+use Rattle.ieee802154.specs.declared.control.Control.{Control}
+use Rattle.ieee802154.specs.declared.header.Repr.{Repr}
+
+-- ---- addresses
+pub length-address : (a : Address) → length (addressBytes a) ≡ addressLength a
+unfolding be64Bytes be32Bytes be16Bytes
+length-address Absent = refl
+length-address (Short x) = refl
+length-address (Extended x) = refl
+
+pub length-field : (a : AddressField) → length (fieldBytes a) ≡ fieldLength a
+unfolding le64Bytes le32Bytes le16Bytes
+length-field AddressField.None = refl
+length-field (AddressField.Some Absent) = refl
+length-field (AddressField.Some (Short x)) = refl
+length-field (AddressField.Some (Extended x)) = refl
+
+pub more-field : (l m n : List ℕ) (at k : ℕ) (a : AddressField) (bs : List ℕ) → k ≡ fieldLength a → m ≡ put at (fieldBytes a) l → n ≡ put (at + k) bs m → n ≡ put at (fieldBytes a ++ bs) l
+more-field l m n at k a bs h p q = more l m n at k (fieldBytes a) bs (length-field a ∙ sym h) p q
+
+-- ---- the header
+pub length-front : (h : Repr) → length (frontBytes h) ≡ 5
+unfolding frontBytes byteBytes le16Bytes
+length-front h = refl
+
+pub more-front : (l m n : List ℕ) (h : Repr) (bs : List ℕ) → m ≡ put 0 (frontBytes h) l → n ≡ put 5 bs m → n ≡ put 0 (frontBytes h ++ bs) l
+more-front l m n h bs p q = more l m n 0 5 (frontBytes h) bs (length-front h) p q
+
+-- the frame control field of a header, as calls give its parts
+pub control-told : (h : Repr) (d s : ℕ) → d ≡ modeOf (h .«dst_addr») → s ≡ modeOf (h .«src_addr») → controlWith h d s ≡ controlFor h
+control-told h d s p q = ap (λ z. controlWith h z s) p ∙ ap (λ z. controlWith h (modeOf (h .«dst_addr»)) z) q
+
+pub word-told : {w : ℕ} {k : Control} (h : Repr) → w ≡ wordOf k → k ≡ controlFor h → w ≡ wordOf (controlFor h)
+word-told h p q = p ∙ ap wordOf q
+
+length-source : (t : Bool) (n : ℕ) (a : AddressField) → length (choose t (fieldBytes a) (le16Bytes n ++ fieldBytes a)) + 5 ≡ choose t 5 7 + fieldLength a
+unfolding le16Bytes
+length-source true n a = omega (arith, length-field a)
+length-source false n a = omega (arith, length-field a)
+
+length-sources : (h : Repr) → length (sourceBytes h) + 5 ≡ choose (h .«pan_id_compression») 5 7 + fieldLength (h .«src_addr»)
+unfolding sourceBytes
+length-sources h = length-source (h .«pan_id_compression») _ (h .«src_addr»)
+
+pub length-bytes : (h : Repr) → length (bytesOf h) ≡ lengthOf h
+unfolding bytesOf backBytes lengthOf
+length-bytes h =
+    let d = fieldBytes (h .«dst_addr») in
+    omega (arith, length-append (frontBytes h) (d ++ sourceBytes h), length-append d (sourceBytes h), length-front h, length-field (h .«dst_addr»), length-sources h)

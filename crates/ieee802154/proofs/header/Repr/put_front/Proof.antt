@@ -1,0 +1,48 @@
+use Rattle.octets.proofs.Puts.{told}
+use Rattle.ieee802154.proofs.WriteSteps.{word-told}
+use Rattle.ieee802154.specs.Mac.{frontBytes}
+use borrow.Author.Needs.{needs}
+use Rattle.ieee802154.proofs.header.Repr.put_front.Statement.{statement}
+use Rattle.ieee802154.proofs.header.Repr.put_front.Tie as tie
+
+control-requires : tie.Need-control-requires
+control-requires c κs = search needs
+
+word-requires : tie.Need-word-requires
+word-requires c κs = search needs
+
+sequence-or-zero-requires : tie.Need-sequence-or-zero-requires
+sequence-or-zero-requires c κs = search needs
+
+or-zero-requires : tie.Need-or-zero-requires
+or-zero-requires c κs = search needs
+
+put-le16-requires : tie.Need-put-le16-requires
+put-le16-requires c κs = search needs
+
+put-byte-requires : tie.Need-put-byte-requires
+put-byte-requires c κs = search needs
+
+put-le16-requires-2 : tie.Need-put-le16-requires-2
+put-le16-requires-2 c κs = search needs
+
+same-length : tie.Need-same-length
+same-length c = search needs
+
+returns : tie.Need-returns
+unfolding frontBytes
+returns c = search (told, word-told)
+
+pub put-front-spec : {M : Type 1} → statement M
+put-front-spec =
+    tie.close
+    (tie.spec
+    control-requires
+    word-requires
+    sequence-or-zero-requires
+    or-zero-requires
+    put-le16-requires
+    put-byte-requires
+    put-le16-requires-2
+    same-length
+    returns)

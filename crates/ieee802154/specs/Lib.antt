@@ -1,0 +1,6 @@
+pub mod Address
+pub mod Control
+pub mod Addressing
+pub mod Security
+pub mod Mac
+pub mod RoundTrips

@@ -1,0 +1,237 @@
+// The frame control field, and which PAN identifiers a frame carries.
+ghost use mathlib.Core.Path.{_≡_};
+ghost use Prim.Native.Nat.{_≤_};
+ghost use lib.Dec.{eqb};
+ghost use Rattle.ieee802154.specs.Control.{controlOf, wordOf, bitOf, supported, hasSequence, hasAddressing, carried01, carried2, carried};
+
+// The frame type: every number of its three bits, named or not.
+pub struct FrameType(pub u8);
+
+impl FrameType {
+    pub const BEACON: FrameType = FrameType(0);
+
+    pub const DATA: FrameType = FrameType(1);
+
+    pub const ACKNOWLEDGEMENT: FrameType = FrameType(2);
+
+    pub const MAC_COMMAND: FrameType = FrameType(3);
+
+    pub const MULTIPURPOSE: FrameType = FrameType(5);
+
+    pub const FRAGMENT_OR_FRAK: FrameType = FrameType(6);
+
+    pub const EXTENDED: FrameType = FrameType(7);
+
+    pub fn is_data(self) -> bool
+        ensures { λ r. ⌜ r ≡ eqb (self .0) 1 ⌝ }
+    {
+        self.0 == FrameType::DATA.0
+    }
+}
+
+// How an address is given: every number of its two bits, named or not.
+pub struct AddressingMode(pub u8);
+
+impl AddressingMode {
+    pub const ABSENT: AddressingMode = AddressingMode(0);
+
+    pub const SHORT: AddressingMode = AddressingMode(2);
+
+    pub const EXTENDED: AddressingMode = AddressingMode(3);
+}
+
+// The version of the standard: every number of its two bits, named or not.
+pub struct FrameVersion(pub u8);
+
+impl FrameVersion {
+    pub const IEEE802154_2003: FrameVersion = FrameVersion(0);
+
+    pub const IEEE802154_2006: FrameVersion = FrameVersion(1);
+
+    pub const IEEE802154: FrameVersion = FrameVersion(2);
+}
+
+// The frame control field.
+pub struct Control {
+    pub frame_type: FrameType,
+    pub security_enabled: bool,
+    pub frame_pending: bool,
+    pub ack_request: bool,
+    pub pan_id_compression: bool,
+    pub dst_addr_mode: AddressingMode,
+    pub frame_version: FrameVersion,
+    pub src_addr_mode: AddressingMode,
+}
+
+// Which PAN identifiers a frame carries.
+pub struct Carried {
+    pub dst: bool,
+    pub src: bool,
+}
+
+impl Control {
+    // The field's bits, the lowest first.
+    pub fn of(fc: u16) -> Control
+        ensures { λ r. ⌜ r ≡ controlOf fc ⌝ }
+    {
+        Control {
+            frame_type: FrameType((fc % 8) as u8),
+            security_enabled: fc / 8 % 2 == 1,
+            frame_pending: fc / 16 % 2 == 1,
+            ack_request: fc / 32 % 2 == 1,
+            pan_id_compression: fc / 64 % 2 == 1,
+            dst_addr_mode: AddressingMode((fc / 1024 % 4) as u8),
+            frame_version: FrameVersion((fc / 4096 % 4) as u8),
+            src_addr_mode: AddressingMode((fc / 16384 % 4) as u8),
+        }
+    }
+
+    // The field as a number; each part keeps to its bits.
+    pub fn word(self) -> u16
+        ensures { λ r. ⌜ r ≡ wordOf self ⌝ }
+    {
+        let low = (self.frame_type.0 as u16) % 8
+            + bit_of(self.security_enabled) * 8
+            + bit_of(self.frame_pending) * 16
+            + bit_of(self.ack_request) * 32
+            + bit_of(self.pan_id_compression) * 64;
+        let dst = (self.dst_addr_mode.0 as u16) % 4;
+        let version = (self.frame_version.0 as u16) % 4;
+        let src = (self.src_addr_mode.0 as u16) % 4;
+        low + dst * 1024 + version * 4096 + src * 16384
+    }
+
+    // Whether the version and the modes are read here.
+    pub fn supported(self) -> bool
+        ensures { λ r. ⌜ r ≡ supported self ⌝ }
+    {
+        if self.frame_version.0 == 3 {
+            return false;
+        }
+        if self.dst_addr_mode.0 == 1 {
+            return false;
+        }
+        if self.src_addr_mode.0 == 1 {
+            return false;
+        }
+        if self.frame_version.0 == FrameVersion::IEEE802154.0 {
+            return true;
+        }
+        if self.dst_addr_mode.0 != AddressingMode::ABSENT.0 {
+            return true;
+        }
+        if self.src_addr_mode.0 != AddressingMode::ABSENT.0 {
+            return true;
+        }
+        !self.pan_id_compression
+    }
+
+    // Whether the frame type has a sequence number.
+    pub fn has_sequence(self) -> bool
+        ensures { λ r. ⌜ r ≡ hasSequence self ⌝ }
+    {
+        let t = self.frame_type.0;
+        if t == 4 {
+            return false;
+        }
+        t < FrameType::FRAGMENT_OR_FRAK.0
+    }
+
+    // Whether the frame type has addressing fields.
+    pub fn has_addressing(self) -> bool
+        ensures { λ r. ⌜ r ≡ hasAddressing self ⌝ }
+    {
+        let t = self.frame_type.0;
+        if t == FrameType::ACKNOWLEDGEMENT.0 {
+            return self.frame_version.0 == FrameVersion::IEEE802154.0;
+        }
+        if t == 4 {
+            return false;
+        }
+        t < FrameType::FRAGMENT_OR_FRAK.0
+    }
+}
+
+fn bit_of(t: bool) -> u16
+    ensures { λ r. ⌜ r ≡ bitOf t ⌝ }
+    ensures { λ r. ⌜ r ≤ 1 ⌝ }
+{
+    if t { 1 } else { 0 }
+}
+
+impl Carried {
+    // Versions 0 and 1: a present address brings its PAN, but the source's is left out where both are present and
+    // compression is set.
+    fn old(dst: AddressingMode, src: AddressingMode, compression: bool) -> Carried
+        ensures { λ r. ⌜ r ≡ carried01 dst src compression ⌝ }
+    {
+        if dst.0 == AddressingMode::ABSENT.0 {
+            return Carried {
+                dst: false,
+                src: src.0 != AddressingMode::ABSENT.0,
+            };
+        }
+        if src.0 == AddressingMode::ABSENT.0 {
+            return Carried {
+                dst: true,
+                src: false,
+            };
+        }
+        Carried {
+            dst: true,
+            src: !compression,
+        }
+    }
+
+    // Version 2.
+    fn new(dst: AddressingMode, src: AddressingMode, compression: bool) -> Carried
+        ensures { λ r. ⌜ r ≡ carried2 dst src compression ⌝ }
+    {
+        if dst.0 == AddressingMode::ABSENT.0 {
+            if src.0 == AddressingMode::ABSENT.0 {
+                return Carried {
+                    dst: compression,
+                    src: false,
+                };
+            }
+            return Carried {
+                dst: false,
+                src: !compression,
+            };
+        }
+        if src.0 == AddressingMode::ABSENT.0 {
+            return Carried {
+                dst: !compression,
+                src: false,
+            };
+        }
+        if dst.0 != AddressingMode::EXTENDED.0 {
+            return Carried {
+                dst: true,
+                src: !compression,
+            };
+        }
+        if src.0 != AddressingMode::EXTENDED.0 {
+            return Carried {
+                dst: true,
+                src: !compression,
+            };
+        }
+        Carried {
+            dst: !compression,
+            src: false,
+        }
+    }
+
+    pub fn of(k: Control) -> Carried
+        ensures { λ r. ⌜ r ≡ carried k ⌝ }
+    {
+        let dst = k.dst_addr_mode;
+        let src = k.src_addr_mode;
+        if k.frame_version.0 == FrameVersion::IEEE802154.0 {
+            Carried::new(dst, src, k.pan_id_compression)
+        } else {
+            Carried::old(dst, src, k.pan_id_compression)
+        }
+    }
+}

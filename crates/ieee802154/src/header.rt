@@ -1,0 +1,224 @@
+// MAC headers, read and written.
+ghost use mathlib.Core.Path.{_≡_};
+ghost use Rattle.octets.specs.Write.{put, ofWritten, wrote, over};
+ghost use Rattle.ieee802154.specs.Mac.{ofParsed, sequenceOf, sequenceOr, reprOf, controlFor, headerRest, header, mac, lengthOf, frontBytes, sourceBytes, backBytes, bytesOf};
+use super::addr::AddressField;
+use super::addr::PanField;
+use super::addressing::Addressing;
+use super::addressing::AddressingRead;
+use super::addressing::read_addressing;
+use super::control::Control;
+use super::control::FrameType;
+use super::control::FrameVersion;
+use super::security::skip_auxiliary;
+use octets::cursor::ByteRead;
+use octets::cursor::Cursor;
+use octets::cursor::Skipped;
+use octets::cursor::WordRead;
+use octets::field::ByteField;
+use octets::refusal::Refusal;
+use octets::write::Written;
+use octets::write::put_byte;
+use octets::write::put_le16;
+
+// The fields of a header.
+pub struct Repr {
+    pub frame_type: FrameType,
+    pub security_enabled: bool,
+    pub frame_pending: bool,
+    pub ack_request: bool,
+    pub sequence_number: ByteField,
+    pub pan_id_compression: bool,
+    pub frame_version: FrameVersion,
+    pub dst_pan_id: PanField,
+    pub dst_addr: AddressField,
+    pub src_pan_id: PanField,
+    pub src_addr: AddressField,
+}
+
+// A header and its length, or why there is none.
+pub enum Parsed {
+    Header(Repr, usize),
+    Refused(Refusal),
+}
+
+fn sequence_or_zero(q: ByteField) -> u8
+    ensures { λ r. ⌜ r ≡ sequenceOr q ⌝ }
+{
+    match q {
+        ByteField::None => 0,
+        ByteField::Some(x) => x,
+    }
+}
+
+impl Repr {
+    fn sequence(k: Control, byte: u8) -> ByteField
+        ensures { λ r. ⌜ r ≡ sequenceOf k byte ⌝ }
+    {
+        if k.has_sequence() {
+            ByteField::Some(byte)
+        } else {
+            ByteField::None
+        }
+    }
+
+    fn of(k: Control, sequence: u8, a: Addressing) -> Repr
+        ensures { λ r. ⌜ r ≡ reprOf k sequence a ⌝ }
+    {
+        let frame_type = k.frame_type;
+        let frame_version = k.frame_version;
+        let dst = a.dst;
+        let src = a.src;
+        let dst_pan_id = dst.pan;
+        let dst_addr = dst.addr;
+        let src_pan_id = src.pan;
+        let src_addr = src.addr;
+        let sequence_number = Repr::sequence(k, sequence);
+        Repr {
+            frame_type,
+            security_enabled: k.security_enabled,
+            frame_pending: k.frame_pending,
+            ack_request: k.ack_request,
+            sequence_number,
+            pan_id_compression: k.pan_id_compression,
+            frame_version,
+            dst_pan_id,
+            dst_addr,
+            src_pan_id,
+            src_addr,
+        }
+    }
+
+    // What follows the frame control field and the sequence number.
+    fn rest(buf: &[u8], k: Control, sequence: u8, c: Cursor) -> Parsed
+        ensures { λ r. ⌜ ofParsed r ≡ headerRest k sequence (now (buf .entry)) (c .at) ⌝ }
+    {
+        if k.supported() {
+            match read_addressing(buf, c, k) {
+                AddressingRead::Field(a, d) => match skip_auxiliary(buf, d, k.security_enabled) {
+                    Skipped::Past(e) => Parsed::Header(Repr::of(k, sequence, a), e.at),
+                    Skipped::Refused(e) => Parsed::Refused(e),
+                },
+                AddressingRead::Refused(e) => Parsed::Refused(e),
+            }
+        } else {
+            Parsed::Refused(Refusal::Unsupported)
+        }
+    }
+
+    fn header(buf: &[u8]) -> Parsed
+        ensures { λ r. ⌜ ofParsed r ≡ header (now (buf .entry)) 0 ⌝ }
+    {
+        match Cursor::START.le16(buf) {
+            WordRead::Field(fc, c) => match c.byte(buf) {
+                ByteRead::Field(sequence, d) => Repr::rest(buf, Control::of(fc), sequence, d),
+                ByteRead::Refused(e) => Parsed::Refused(e),
+            },
+            WordRead::Refused(e) => Parsed::Refused(e),
+        }
+    }
+
+    // The header and its length, the auxiliary security header included: the payload starts there.
+    pub fn parse(buf: &[u8]) -> Parsed
+        ensures { λ r. ⌜ ofParsed r ≡ mac (now (buf .entry)) ⌝ }
+    {
+        if buf.len() < 3 {
+            return Parsed::Refused(Refusal::Ended);
+        }
+        if 127 < buf.len() {
+            return Parsed::Refused(Refusal::BadLength);
+        }
+        Repr::header(buf)
+    }
+
+    // The length of the header that `emit` writes.
+    pub fn buffer_len(self) -> usize
+        ensures { λ r. ⌜ r ≡ lengthOf self ⌝ }
+    {
+        let dst_addr = self.dst_addr;
+        let src_addr = self.src_addr;
+        let addresses = dst_addr.len() + src_addr.len();
+        if self.pan_id_compression {
+            5 + addresses
+        } else {
+            7 + addresses
+        }
+    }
+
+    // The frame control field that `emit` writes.
+    fn control(self) -> Control
+        ensures { λ r. ⌜ r ≡ controlFor self ⌝ }
+    {
+        let frame_type = self.frame_type;
+        let frame_version = self.frame_version;
+        let dst_addr = self.dst_addr;
+        let src_addr = self.src_addr;
+        let dst_addr_mode = dst_addr.mode();
+        let src_addr_mode = src_addr.mode();
+        Control {
+            frame_type,
+            security_enabled: self.security_enabled,
+            frame_pending: self.frame_pending,
+            ack_request: self.ack_request,
+            pan_id_compression: self.pan_id_compression,
+            dst_addr_mode,
+            frame_version,
+            src_addr_mode,
+        }
+    }
+
+    // The frame control field, the sequence number and the destination PAN.
+    fn put_front(self, buf: &mut [u8])
+        ensures { λ _. ⌜ now (buf .exit) ≡ put 0 (frontBytes self) (now (buf .entry)) ⌝ }
+    {
+        let sequence = self.sequence_number;
+        let dst = self.dst_pan_id;
+        let word = self.control().word();
+        let byte = sequence_or_zero(sequence);
+        let pan = dst.or_zero();
+        put_le16(buf, 0, word);
+        put_byte(buf, 2, byte);
+        put_le16(buf, 3, pan.0);
+    }
+
+    // The source PAN, unless compressed, and the source address.
+    fn put_source(self, buf: &mut [u8], at: usize)
+        ensures { λ _. ⌜ now (buf .exit) ≡ put at (sourceBytes self) (now (buf .entry)) ⌝ }
+    {
+        if buf.len() <= at {
+            return;
+        }
+        let src_addr = self.src_addr;
+        if self.pan_id_compression {
+            src_addr.put(buf, at);
+            return;
+        }
+        let src = self.src_pan_id;
+        let pan = src.or_zero();
+        put_le16(buf, at, pan.0);
+        src_addr.put(buf, at + 2);
+    }
+
+    // The destination address and what follows it.
+    fn put_back(self, buf: &mut [u8])
+        ensures { λ _. ⌜ now (buf .exit) ≡ put 5 (backBytes self) (now (buf .entry)) ⌝ }
+    {
+        let dst_addr = self.dst_addr;
+        let n = dst_addr.len();
+        dst_addr.put(buf, 5);
+        self.put_source(buf, 5 + n);
+    }
+
+    // Writes the header into the front of the room. A missing sequence number or PAN is written as zero.
+    pub fn emit(self, buf: &mut [u8]) -> Written
+        ensures { λ r. ⌜ (ofWritten r ≡ wrote (lengthOf self) (now (buf .entry))) × (now (buf .exit) ≡ over (lengthOf self) (bytesOf self) (now (buf .entry))) ⌝ }
+    {
+        let n = self.buffer_len();
+        if buf.len() < n {
+            return Written::Refused(Refusal::NoRoom);
+        }
+        self.put_front(buf);
+        self.put_back(buf);
+        Written::Bytes(n)
+    }
+}
