@@ -7,3 +7,5 @@ pub mod NhcTrips
 pub mod NhcSpans
 pub mod NhcUnique
 pub mod NhcExamples
+pub mod FragSteps
+pub mod FragPuts

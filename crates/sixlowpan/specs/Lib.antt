@@ -6,3 +6,5 @@ pub mod IphcEmit
 pub mod Nhc
 pub mod NhcExt
 pub mod NhcUdp
+pub mod Frag
+pub mod Key

@@ -8,6 +8,7 @@
 // definition lists, or refuses, 7, and leaves the room as it was. What is written reads back (proofs/).
 pub mod context;
 pub mod dispatch;
+pub mod frag;
 pub mod iphc;
 mod iphc_emit;
 mod iphc_form;
