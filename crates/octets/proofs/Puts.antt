@@ -8,8 +8,8 @@ use mathlib.Core.Bool.{Bool, true, false}
 use mathlib.Core.Path.{_≡_, refl, sym, ap, _∙_}
 use lib.ListN.{length, set, drop, take, length-set}
 use lib.Seq.{set-out, sets, sets-eq}
-use lib.Dec.{leb}
-use borrow.Author.Tests.{le-leb, lt-leb}
+use lib.Dec.{leb, eqb}
+use borrow.Author.Tests.{le-leb, lt-leb, eq-eqb, ne-eqb}
 use Rattle.octets.specs.Read.{choose}
 use Rattle.octets.specs.Write.{put, over, byteBytes, be16Bytes, be32Bytes, be64Bytes, le16Bytes, le32Bytes, le64Bytes}
 
@@ -110,6 +110,12 @@ if-put t at cs bs l n h e = rw h e
 
 pub if-not-put : (t : Bool) (at : ℕ) (cs bs l n : List ℕ) → t ≡ false → n ≡ put at bs l → n ≡ put at (choose t cs bs) l
 if-not-put t at cs bs l n h e = rw h e
+
+pub put-eq : (a b at : ℕ) (cs bs l n : List ℕ) → a ≡ b → n ≡ put at cs l → n ≡ put at (choose (eqb a b) cs bs) l
+put-eq a b at cs bs l n h e = rw (eq-eqb a b h) e
+
+pub put-ne : (a b at : ℕ) (cs bs l n : List ℕ) → (a ≡ b → ⊥) → n ≡ put at bs l → n ≡ put at (choose (eqb a b) cs bs) l
+put-ne a b at cs bs l n h e = rw (ne-eqb a b h) e
 
 pub ruleset told = (byte-told, le16-told, more-byte-told, more-le16-told, if-put, if-not-put)
 

@@ -8,9 +8,9 @@ use mathlib.Core.Bool.{Bool, true, false}
 use mathlib.Core.Path.{_≡_, refl, sym, ap, subst, _∙_}
 use lib.ListN.{length, getD, drop, length-append}
 use lib.Seq.{getD-at}
-use lib.Dec.{ltb}
-use borrow.Author.Tests.{lt-ltb, le-leb}
-use Rattle.octets.specs.Read.{Answer, is, refused, Placed, Read, Reader, got, andThen, choose, branch, _>>=_, give, byte, be16, be32, be64, le16, le32, le64}
+use lib.Dec.{ltb, eqb}
+use borrow.Author.Tests.{lt-ltb, le-leb, eq-eqb}
+use Rattle.octets.specs.Read.{Answer, is, refused, Placed, Read, Reader, got, andThen, choose, branch, _>>=_, give, refuse, byte, be16, be32, be64, le16, le32, le64}
 use Rattle.octets.specs.Write.{over, byteBytes, be16Bytes, be32Bytes, be64Bytes, le16Bytes, le32Bytes, le64Bytes}
 
 abbrev pub Reads : {A : Type 0} → Reader A → List ℕ → A → Type 0
@@ -54,11 +54,19 @@ reads-byte x p q n e =
     let h : n < length (p ++ x ∷ q) = omega (arith, length-append p (x ∷ q)) in
     rw (lt-ltb n (length (p ++ x ∷ q)) h) (ap (λ z. got z (n + 1)) (getD-at p x q 0 n e))
 
+-- two fields, made into one value
+pub reads-both : {A B C : Type 0} (m : Reader A) (k : Reader B) (f : A → B → C) (cs bs : List ℕ) (x : A) (y : B) → Reads m cs x → Reads k bs y → Reads (_>>=_ m (λ a. _>>=_ k (λ b. give (f a b)))) (cs ++ bs) (f x y)
+reads-both m k f cs bs x y r t = reads-then m (λ a. _>>=_ k (λ b. give (f a b))) cs bs x (f x y) r (reads-map k (f x) bs y t)
+
+-- a first byte b whose test holds, then what it announces
+pub reads-first : {A : Type 0} (b d e : ℕ) (k : ℕ → Reader A) (t : ℕ → ℕ) (bs : List ℕ) (x : A) → t b ≡ d → Reads (k b) bs x → Reads (_>>=_ byte (λ a. branch (eqb (t a) d) (k a) (refuse e))) (byteBytes b ++ bs) x
+reads-first b d e k t bs x h r =
+    reads-then byte (λ a. branch (eqb (t a) d) (k a) (refuse e)) (byteBytes b) bs b x (reads-byte b)
+    (reads-if (eqb (t b) d) (k b) (refuse e) bs x (eq-eqb (t b) d h) r)
+
 -- two fields of one kind, made into one number
-pub reads-two : (m : Reader ℕ) (f : ℕ → ℕ → ℕ) (cs bs : List ℕ) (x y z : ℕ) → f x y ≡ z → Reads m cs x → Reads m bs y → Reads (_>>=_ m (λ a. _>>=_ m (λ b. give (f a b)))) (cs ++ bs) z
-reads-two m f cs bs x y z e r s =
-    subst (Reads (_>>=_ m (λ a. _>>=_ m (λ b. give (f a b)))) (cs ++ bs)) e
-    (reads-then m (λ a. _>>=_ m (λ b. give (f a b))) cs bs x (f x y) r (reads-map m (f x) bs y s))
+reads-two : (m : Reader ℕ) (f : ℕ → ℕ → ℕ) (cs bs : List ℕ) (x y z : ℕ) → f x y ≡ z → Reads m cs x → Reads m bs y → Reads (_>>=_ m (λ a. _>>=_ m (λ b. give (f a b)))) (cs ++ bs) z
+reads-two m f cs bs x y z e r s = reads-as (_>>=_ m (λ a. _>>=_ m (λ b. give (f a b)))) (cs ++ bs) (f x y) z e (reads-both m m f cs bs x y r s)
 
 pub reads-be16 : (x : ℕ) → Reads be16 (be16Bytes x) x
 unfolding be16 be16Bytes byteBytes

@@ -4,7 +4,8 @@ use Prim.Native.Nat.{ℕ, _+_, _*_, _≤_, _<_}
 use native.Mathlib.Omega.{arith}
 use mathlib.Core.List.{List}
 use mathlib.Core.Bool.{Bool, true, false}
-use mathlib.Core.Path.{_≡_, refl, sym, ap, _∙_}
+use native.Mathlib.Nat.{add-zero}
+use mathlib.Core.Path.{_≡_, refl, ap, subst, _∙_}
 use lib.ListN.{length, getD}
 use lib.Dec.{ltb, leb}
 use borrow.Author.Tests.{ltb-true, leb-true}
@@ -46,6 +47,17 @@ pub spans-branch : {A : Type 0} (t : Bool) (m f : Reader A) (j k : ℕ) → Span
 spans-branch true m f j k v w s at a n h e = v s at a n h e
 spans-branch false m f j k v w s at a n h e = w s at a n h e
 
+-- a field of which a value is made, two of them, and one behind a test
+pub spans-map : {A B : Type 0} (m : Reader A) (f : A → B) (k : ℕ) → Spans m k → Spans (_>>=_ m (λ a. give (f a))) k
+spans-map m f k v = subst (Spans (_>>=_ m (λ a. give (f a)))) (add-zero k) (spans-then m (λ a. give (f a)) k 0 v (λ a. spans-give (f a)))
+
+pub spans-both : {A B C : Type 0} (m : Reader A) (k : Reader B) (f : A → B → C) (i j : ℕ) → Spans m i → Spans k j → Spans (_>>=_ m (λ a. _>>=_ k (λ b. give (f a b)))) (i + j)
+spans-both m k f i j v w = spans-then m (λ a. _>>=_ k (λ b. give (f a b))) i j v (λ a. spans-map k (f a) j w)
+
+pub spans-guard : {A : Type 0} (t : Bool) (m : Reader A) (r k : ℕ) → Spans m k → Spans (branch t m (refuse r)) k
+spans-guard true m r k v s at a n h e = v s at a n h e
+spans-guard false m r k v s at a n h e = spans-refuse r k s at a n h e
+
 -- a first field a of j bytes, which says how far the rest goes: k a
 pub record First {A : Type 0} (m : Reader A) (j : ℕ) (k : A → ℕ) (s : List ℕ) (at n : ℕ) : Type 0 where
   pub field : A
@@ -86,30 +98,26 @@ pub spans-skip : (k : ℕ) → Spans (skip k) k
 unfolding skip
 spans-skip k s at a n h e = skip-go s k at n a (leb (at + k) (length s)) refl e
 
--- two fields of one kind, made into one number
-spans-two : (m : Reader ℕ) (f : ℕ → ℕ → ℕ) (k : ℕ) → Spans m k → Spans (_>>=_ m (λ a. _>>=_ m (λ b. give (f a b)))) (k + (k + 0))
-spans-two m f k w = spans-then m (λ a. _>>=_ m (λ b. give (f a b))) k (k + 0) w (λ a. spans-then m (λ b. give (f a b)) k 0 w (λ b. spans-give (f a b)))
-
 pub spans-be16 : Spans be16 2
 unfolding be16
-spans-be16 = spans-two byte (λ hi lo. hi * 256 + lo) 1 spans-byte
+spans-be16 = spans-both byte byte (λ x y. _) 1 1 spans-byte spans-byte
 
 pub spans-be32 : Spans be32 4
 unfolding be32
-spans-be32 = spans-two be16 (λ hi lo. _) 2 spans-be16
+spans-be32 = spans-both be16 be16 (λ x y. _) 2 2 spans-be16 spans-be16
 
 pub spans-be64 : Spans be64 8
 unfolding be64
-spans-be64 = spans-two be32 (λ hi lo. _) 4 spans-be32
+spans-be64 = spans-both be32 be32 (λ x y. _) 4 4 spans-be32 spans-be32
 
 pub spans-le16 : Spans le16 2
 unfolding le16
-spans-le16 = spans-two byte (λ lo hi. _) 1 spans-byte
+spans-le16 = spans-both byte byte (λ x y. _) 1 1 spans-byte spans-byte
 
 pub spans-le32 : Spans le32 4
 unfolding le32
-spans-le32 = spans-two le16 (λ lo hi. _) 2 spans-le16
+spans-le32 = spans-both le16 le16 (λ x y. _) 2 2 spans-le16 spans-le16
 
 pub spans-le64 : Spans le64 8
 unfolding le64
-spans-le64 = spans-two le32 (λ lo hi. _) 4 spans-le32
+spans-le64 = spans-both le32 le32 (λ x y. _) 4 4 spans-le32 spans-le32

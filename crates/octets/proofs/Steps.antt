@@ -96,6 +96,10 @@ and-eq a b t h e = rw (eq-eqb a b h) e
 pub and-ne : (a b : ℕ) (t : Bool) → (a ≡ b → ⊥) → false ≡ (eqb a b && t)
 and-ne a b t h = rw (ne-eqb a b h) refl
 
+pub and-true : (a b : Bool) → (a && b) ≡ true → (a ≡ true) × (b ≡ true)
+and-true true b h = (refl, h)
+and-true false b h = (cc, cc)
+
 -- a value that a call gave, in what is given
 pub give-told : {A : Type 0} (x y : A) (at : ℕ) → x ≡ y → got x at ≡ got y at
 give-told x y at p = ap (λ z. got z at) p

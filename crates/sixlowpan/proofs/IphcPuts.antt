@@ -9,9 +9,10 @@ use lib.Dec.{eqb}
 use Rattle.octets.specs.Read.{choose}
 use Rattle.octets.specs.Write.{put, byteBytes, be16Bytes, be32Bytes, be64Bytes}
 use Rattle.octets.proofs.Puts.{more, put-nil}
-use Rattle.sixlowpan.specs.IphcEmit.{inlineLength, inlineBytes, nextLength, nextBytes, hopBits, hopLength, hopBytes, frontLength, frontBytes, baseWord, addressesLength, addressesBytes, sourceForm, destForm, lengthOf, bytesOf}
+use Rattle.sixlowpan.specs.IphcEmit.{inlineLength, inlineBytes, hopBits, hopLength, hopBytes, frontLength, frontBytes, baseWord, addressesLength, addressesBytes, sourceForm, destForm, lengthOf, bytesOf}
 use Rattle.sixlowpan.specs.declared.protocol.NextHeader.{NextHeader}
-use Rattle.sixlowpan.specs.declared.protocol.NextHeader.the-variants.{Compressed, Uncompressed}
+use Rattle.sixlowpan.proofs.NextLaws.{length-next, more-next}
+use Rattle.sixlowpan.specs.Next.{nextBytes}
 use Rattle.sixlowpan.specs.declared.iphc_form.Inline.{Inline}
 use Rattle.sixlowpan.specs.declared.iphc_form.Inline.the-variants.{Nothing, Bits8, Bits16, Bits32, Bits48, Bits64, Bits128}
 use Rattle.sixlowpan.specs.declared.iphc_form.Form.{Form}
@@ -27,11 +28,6 @@ length-inline (Bits32 x) = refl
 length-inline (Bits48 x y) = refl
 length-inline (Bits64 x) = refl
 length-inline (Bits128 x y) = refl
-
-pub length-next : (n : NextHeader) → length (nextBytes n) ≡ nextLength n
-unfolding byteBytes
-length-next Compressed = refl
-length-next (Uncompressed p) = refl
 
 pub length-hop : (h : ℕ) → length (hopBytes h) ≡ hopLength h
 unfolding byteBytes
@@ -59,9 +55,6 @@ length-bytes r =
     omega (arith, length-append (frontBytes n h s d) (addressesBytes s d), length-front n h s d, length-addresses s d)
 
 -- ---- a field after a field, as a call says it
-pub more-next : (l m k : List ℕ) (at a : ℕ) (n : NextHeader) (bs : List ℕ) → a ≡ nextLength n → m ≡ put at (nextBytes n) l → k ≡ put (at + a) bs m → k ≡ put at (nextBytes n ++ bs) l
-more-next l m k at a n bs h p q = more l m k at a (nextBytes n) bs (length-next n ∙ sym h) p q
-
 pub more-inline : (l m k : List ℕ) (at a : ℕ) (i : Inline) (bs : List ℕ) → a ≡ inlineLength i → m ≡ put at (inlineBytes i) l → k ≡ put (at + a) bs m → k ≡ put at (inlineBytes i ++ bs) l
 more-inline l m k at a i bs h p q = more l m k at a (inlineBytes i) bs (length-inline i ∙ sym h) p q
 

@@ -15,15 +15,16 @@ use Rattle.octets.specs.Ipv6.{ip, linkLocal, isUnspecified, isMulticast, isLink
 use Rattle.octets.specs.declared.ipv6.Ipv6Addr.{Ipv6Addr}
 use Rattle.octets.specs.declared.field.ByteField.{ByteField}
 use Rattle.octets.specs.declared.field.WordField.{WordField}
-use Rattle.octets.proofs.RoundTrip.{Reads, reads-then, reads-last, reads-map, reads-as, reads-if, reads-give, reads-byte, reads-be16, reads-be32, reads-be64, emit-then-read}
+use Rattle.octets.proofs.Steps.{and-true}
+use Rattle.octets.proofs.RoundTrip.{Reads, reads-then, reads-last, reads-both, reads-map, reads-as, reads-if, reads-give, reads-byte, reads-be16, reads-be32, reads-be64, emit-then-read}
 use Rattle.ieee802154.specs.Address.{eui64}
 use Rattle.ieee802154.specs.declared.addr.Address.{Address}
 use Rattle.ieee802154.specs.declared.addr.Address.the-variants.{Absent, Short, Extended}
 use Rattle.ieee802154.specs.declared.addr.AddressField.{AddressField}
-use Rattle.sixlowpan.specs.Iphc.{baseOf, base, contexts, trafficOf, traffic, nextHeader, hopLimit, frontRest, front, shortIid, orRefuse, linkIid, having, identifier, full, prefixOf, elided, source, group48, group32, group8, multicast, destination, addresses, reprOf, behind, iphc}
-use Rattle.sixlowpan.specs.IphcEmit.{inlineBytes, form, fullForm, isShort, isOf, isExtended, iidForm, srcForm, isGroup8, isScoped, scopeOf, multicastForm, dstForm, nextBit, nextBytes, hopBits, hopBytes, baseWord, frontBytes, addressesBytes, sourceForm, destForm, lengthOf, bytesOf}
+use Rattle.sixlowpan.specs.Next.{nextHeader, nextBit, nextBytes}
+use Rattle.sixlowpan.specs.Iphc.{baseOf, base, contexts, trafficOf, traffic, hopLimit, frontRest, front, shortIid, orRefuse, linkIid, having, identifier, full, prefixOf, elided, source, group48, group32, group8, multicast, destination, addresses, reprOf, behind, iphc}
+use Rattle.sixlowpan.specs.IphcEmit.{inlineBytes, form, fullForm, isShort, isOf, isExtended, iidForm, srcForm, isGroup8, isScoped, scopeOf, multicastForm, dstForm, hopBits, hopBytes, baseWord, frontBytes, addressesBytes, sourceForm, destForm, lengthOf, bytesOf}
 use Rattle.sixlowpan.specs.declared.protocol.NextHeader.{NextHeader}
-use Rattle.sixlowpan.specs.declared.protocol.NextHeader.the-variants.{Compressed, Uncompressed}
 use Rattle.sixlowpan.specs.declared.iphc_form.Inline.the-variants.{Nothing, Bits8, Bits16, Bits32, Bits48, Bits64, Bits128}
 use Rattle.sixlowpan.specs.declared.iphc_form.Form.{Form}
 use Rattle.sixlowpan.specs.declared.iphc_read.Base.{Base}
@@ -32,14 +33,10 @@ use Rattle.sixlowpan.specs.declared.iphc_read.Traffic.{Traffic}
 use Rattle.sixlowpan.specs.declared.iphc_read.Front.{Front}
 use Rattle.sixlowpan.specs.declared.iphc_read.Addresses.{Addresses}
 use Rattle.sixlowpan.specs.declared.iphc.Repr.{Repr}
+use Rattle.sixlowpan.proofs.NextLaws.{reads-next, next-bit-lt}
 use Rattle.sixlowpan.proofs.IphcPuts.{length-bytes}
 
 -- ---- next header and hop limit
-reads-next : (n : NextHeader) → Reads (nextHeader (nextBit n)) (nextBytes n) n
-unfolding nextHeader
-reads-next Compressed = reads-give Compressed
-reads-next (Uncompressed p) = reads-map byte (λ b. Uncompressed (record { 0 = b })) (byteBytes (p .0)) (p .0) (reads-byte (p .0))
-
 hop-go : (h : ℕ) (b c d : Bool) → eqb h 1 ≡ b → eqb h 64 ≡ c → eqb h 255 ≡ d
     → Reads (hopLimit (choose b 0b01 (choose c 0b10 (choose d 0b11 0b00)))) (choose (eqb (choose b 0b01 (choose c 0b10 (choose d 0b11 0b00))) 0b00) (byteBytes h) []) h
 unfolding hopLimit
@@ -87,9 +84,7 @@ iid-cases i ll P f3 f2 f1 = go (eqb (i / 2 ^ 16) 0xfffe00) (isShort ll (i % 2 ^ 
 
 reads-full : (a : Ipv6Addr) → Reads full (be64Bytes (a .prefix) ++ be64Bytes (a .iid)) a
 unfolding full
-reads-full a =
-    reads-then be64 (λ p. _>>=_ be64 (λ i. give (ip p i))) (be64Bytes (a .prefix)) (be64Bytes (a .iid)) (a .prefix) a (reads-be64 (a .prefix))
-    (reads-map be64 (ip (a .prefix)) (be64Bytes (a .iid)) (a .iid) (reads-be64 (a .iid)))
+reads-full a = reads-both be64 be64 ip (be64Bytes (a .prefix)) (be64Bytes (a .iid)) (a .prefix) (a .iid) (reads-be64 (a .prefix)) (reads-be64 (a .iid))
 
 link-back : (ll : AddressField) (i : ℕ) → linkIid ll ≡ is i → Reads (identifier 0b11 ll) [] i
 unfolding identifier
@@ -114,9 +109,7 @@ reads-group32 x = reads-map be32 (λ z. ip ((0xff00 + z / 2 ^ 24) * 2 ^ 48) (z %
 
 reads-group48 : (x y : ℕ) → Reads group48 (be16Bytes x ++ be32Bytes y) (ip ((0xff00 + x / 256) * 2 ^ 48) (x % 256 * 2 ^ 32 + y))
 unfolding group48
-reads-group48 x y =
-    reads-then be16 (λ u. _>>=_ be32 (λ v. give (ip ((0xff00 + u / 256) * 2 ^ 48) (u % 256 * 2 ^ 32 + v)))) (be16Bytes x) (be32Bytes y) x _ (reads-be16 x)
-    (reads-map be32 (λ v. ip ((0xff00 + x / 256) * 2 ^ 48) (x % 256 * 2 ^ 32 + v)) (be32Bytes y) y (reads-be32 y))
+reads-group48 x y = reads-both be16 be32 (λ u v. ip ((0xff00 + u / 256) * 2 ^ 48) (u % 256 * 2 ^ 32 + v)) (be16Bytes x) (be32Bytes y) x y (reads-be16 x) (reads-be32 y)
 
 -- the address that a prefix and an identifier make
 same-ip : (a : Ipv6Addr) (p i : ℕ) → p ≡ a .prefix → i ≡ a .iid → ip p i ≡ a
@@ -139,18 +132,14 @@ SourceBack ctx id ll a f = Reads (source ctx (f .mode / 4) (f .mode % 4) id ll) 
 abbrev DestBack : List ℕ → ℕ → AddressField → Ipv6Addr → Form → Type 0
 DestBack ctx id ll a f = Reads (destination ctx (f .mode / 8) (f .mode / 4 % 2) (f .mode % 4) id ll) (inlineBytes (f .inline)) a × (f .mode < 16)
 
-both : (x y : Bool) → (x && y) ≡ true → (x ≡ true) × (y ≡ true)
-both true y e = (refl, e)
-both false y e = (cc, cc)
-
 scoped-is : (a : Ipv6Addr) (b : ℕ) → isScoped a b ≡ true → (a .prefix % 2 ^ 48 ≡ 0) × (a .iid < b)
-scoped-is a b e = let w = both (eqb (a .prefix % 2 ^ 48) 0) (ltb (a .iid) b) e in (eqb-true (a .prefix % 2 ^ 48) 0 (w .0), ltb-true (a .iid) b (w .1))
+scoped-is a b e = let w = and-true (eqb (a .prefix % 2 ^ 48) 0) (ltb (a .iid) b) e in (eqb-true (a .prefix % 2 ^ 48) 0 (w .0), ltb-true (a .iid) b (w .1))
 
 -- a group is the address that its short form stands for
 module _ (a : Ipv6Addr) where
   group8-is : isGroup8 a ≡ true → ip (0xff02 * 2 ^ 48) (a .iid % 2 ^ 8) ≡ a
   group8-is e =
-      let w = both (eqb (a .prefix) (0xff02 * 2 ^ 48)) (ltb (a .iid) (2 ^ 8)) e in
+      let w = and-true (eqb (a .prefix) (0xff02 * 2 ^ 48)) (ltb (a .iid) (2 ^ 8)) e in
       let i : a .iid < 2 ^ 8 = ltb-true (a .iid) (2 ^ 8) (w .1) in
       same-ip a (0xff02 * 2 ^ 48) (a .iid % 2 ^ 8) (sym (eqb-true (a .prefix) (0xff02 * 2 ^ 48) (w .0))) (omega arith)
 
@@ -193,7 +182,7 @@ module _ (ctx : List ℕ) (id : ℕ) (ll : AddressField) (a : Ipv6Addr) where
     where
       go : (b c : Bool) → isUnspecified a ≡ b → isLinkLocal a ≡ c → SourceBack ctx id ll a (choose b (form 0b100 Nothing) (choose c (iidForm (a .iid) ll) (fullForm 0b000 a)))
       go true c e f =
-          let w = both (eqb (a .prefix) 0) (eqb (a .iid) 0) e in
+          let w = and-true (eqb (a .prefix) 0) (eqb (a .iid) 0) e in
           let h = same-ip a 0 0 (sym (eqb-true (a .prefix) 0 (w .0))) (sym (eqb-true (a .iid) 0 (w .1))) in
           (reads-as (give (ip 0 0)) [] (ip 0 0) a h (reads-give (ip 0 0)), omega arith)
       go false true e f = local-source (iidForm (a .iid) ll) (local-back (eqb-true (a .prefix) linkLocal f))
@@ -246,10 +235,6 @@ fields-back : (nb hb sm dm : ℕ) → nb < 2 → hb < 4 → sm < 8 → dm < 16 �
 fields-back nb hb sm dm h1 h2 h3 h4 =
     record { lead = omega arith; tf = omega arith; nh = omega arith; hlim = omega arith; cid = omega arith; sac = omega arith; sam = omega arith; m = omega arith; dac = omega arith; dam = omega arith }
 
-next-bit-lt : (n : NextHeader) → nextBit n < 2
-next-bit-lt Compressed = omega arith
-next-bit-lt (Uncompressed p) = omega arith
-
 hop-bits-lt : (h : ℕ) → hopBits h < 4
 hop-bits-lt h = go (eqb h 1) (eqb h 64) (eqb h 255)
   where
@@ -287,8 +272,7 @@ reads-front b n h ec et en eh =
     let bs : List ℕ = nextBytes n ++ hopBytes h in
     reads-then (contexts (b .cid)) (λ i. _>>=_ (traffic (b .tf)) (λ t. frontRest b i t)) [] bs noContexts (frontOf n h) (reads-no-contexts (b .cid) ec)
     (reads-then (traffic (b .tf)) (λ t. frontRest b noContexts t) [] bs noTraffic (frontOf n h) (reads-no-traffic (b .tf) et)
-    (reads-then (nextHeader (b .nh)) (λ m. _>>=_ (hopLimit (b .hlim)) (λ k. give (frontOf m k))) (nextBytes n) (hopBytes h) n (frontOf n h) (subst (λ z. Reads (nextHeader z) (nextBytes n) n) (sym en) (reads-next n))
-    (reads-map (hopLimit (b .hlim)) (frontOf n) (hopBytes h) h (subst (λ z. Reads (hopLimit z) (hopBytes h) h) (sym eh) (reads-hop h)))))
+    (reads-both (nextHeader (b .nh)) (hopLimit (b .hlim)) frontOf (nextBytes n) (hopBytes h) n h (subst (λ z. Reads (nextHeader z) (nextBytes n) n) (sym en) (reads-next n)) (subst (λ z. Reads (hopLimit z) (hopBytes h) h) (sym eh) (reads-hop h))))
 
 reads-addresses : (ctx : List ℕ) (b : Base) (ls ld : AddressField) (s d : Ipv6Addr) (f g : Form)
     → b .sac ≡ f .mode / 4 → b .sam ≡ f .mode % 4 → b .m ≡ g .mode / 8 → b .dac ≡ g .mode / 4 % 2 → b .dam ≡ g .mode % 4
@@ -299,8 +283,7 @@ reads-addresses ctx b ls ld s d f g e1 e2 e3 e4 e5 sb db =
     let md : Reader Ipv6Addr = destination ctx (b .m) (b .dac) (b .dam) 0 ld in
     let rs : Reads ms (inlineBytes (f .inline)) s = rw (e1, e2) (sb .0) in
     let rd : Reads md (inlineBytes (g .inline)) d = rw (e3, e4, e5) (db .0) in
-    reads-then ms (λ x. _>>=_ md (λ y. give (record { src = x; dst = y }))) (inlineBytes (f .inline)) (inlineBytes (g .inline)) s _ rs
-    (reads-map md (λ y. record { src = s; dst = y }) (inlineBytes (g .inline)) d rd)
+    reads-both ms md (λ x y. record { src = x; dst = y }) (inlineBytes (f .inline)) (inlineBytes (g .inline)) s d rs rd
 
 -- the header that is read back: what is not carried is none
 abbrev pub restored : Repr → Repr

@@ -16,8 +16,8 @@ use Rattle.ieee802154.specs.declared.addr.Eui64.{Eui64}
 use Rattle.ieee802154.specs.declared.addr.AddressField.{AddressField}
 use Rattle.sixlowpan.specs.Context.{ofPrefix, listed}
 use Rattle.sixlowpan.specs.Iphc.{orRefuse, behind}
-use Rattle.sixlowpan.specs.IphcAnswers.{ofContexts, ofTraffic, ofNext, ofFront, ofIid, ofAddr, ofAddresses}
-use Rattle.sixlowpan.specs.declared.protocol.NextHeader.{NextHeader}
+use Rattle.sixlowpan.specs.IphcAnswers.{ofContexts, ofTraffic, ofFront, ofIid, ofAddr, ofAddresses}
+use Rattle.sixlowpan.proofs.NextLaws.{on-next, no-next}
 use Rattle.sixlowpan.specs.declared.context.PrefixAnswer.{PrefixAnswer}
 use Rattle.sixlowpan.specs.declared.iphc_read.Base.{Base}
 use Rattle.sixlowpan.specs.declared.iphc_read.Contexts.{Contexts}
@@ -27,7 +27,6 @@ use Rattle.sixlowpan.specs.declared.iphc_read.Addresses.{Addresses}
 use Rattle.sixlowpan.specs.declared.iphc.Repr.{Repr}
 use Rattle.sixlowpan.specs.declared.iphc_read.ContextsRead.{ContextsRead}
 use Rattle.sixlowpan.specs.declared.iphc_read.TrafficRead.{TrafficRead}
-use Rattle.sixlowpan.specs.declared.iphc_read.NextRead.{NextRead}
 use Rattle.sixlowpan.specs.declared.iphc_read.FrontRead.{FrontRead}
 use Rattle.sixlowpan.specs.declared.iphc_read.AddrRead.{AddrRead}
 use Rattle.sixlowpan.specs.declared.iphc_read.AddressesRead.{AddressesRead}
@@ -44,12 +43,6 @@ on-traffic {x = x} {c = c} m k p q e = on-is ofTraffic (TrafficRead.Field x c) (
 
 pub no-traffic : {B : Type 0} {y : TrafficRead} {e : Refusal} (m : Read Traffic) (k : Placed Traffic → Answer B) → ofTraffic y ≡ m → y ≡ TrafficRead.Refused e → refused (numberOf e) ≡ andThen m k
 no-traffic {e = e} m k p q = on-refused ofTraffic (TrafficRead.Refused e) (numberOf e) m k refl p q
-
-pub on-next : {B : Type 0} {r : Answer B} {y : NextRead} {x : NextHeader} {c : Cursor} (m : Read NextHeader) (k : Placed NextHeader → Answer B) → ofNext y ≡ m → y ≡ NextRead.Field x c → r ≡ k (record { value = x; next = c .at }) → r ≡ andThen m k
-on-next {x = x} {c = c} m k p q e = on-is ofNext (NextRead.Field x c) (record { value = x; next = c .at }) m k refl p q e
-
-pub no-next : {B : Type 0} {y : NextRead} {e : Refusal} (m : Read NextHeader) (k : Placed NextHeader → Answer B) → ofNext y ≡ m → y ≡ NextRead.Refused e → refused (numberOf e) ≡ andThen m k
-no-next {e = e} m k p q = on-refused ofNext (NextRead.Refused e) (numberOf e) m k refl p q
 
 pub on-front : {B : Type 0} {r : Answer B} {y : FrontRead} {x : Front} {c : Cursor} (m : Read Front) (k : Placed Front → Answer B) → ofFront y ≡ m → y ≡ FrontRead.Field x c → r ≡ k (record { value = x; next = c .at }) → r ≡ andThen m k
 on-front {x = x} {c = c} m k p q e = on-is ofFront (FrontRead.Field x c) (record { value = x; next = c .at }) m k refl p q e

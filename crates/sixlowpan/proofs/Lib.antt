@@ -1,3 +1,4 @@
+pub mod NextLaws
 pub mod IphcSteps
 pub mod IphcPuts
 pub mod IphcRoundTrip

@@ -5,7 +5,8 @@ use mathlib.Core.Path.{_≡_, refl}
 use Rattle.octets.specs.Read.{got, byte, be16}
 use Rattle.octets.specs.Write.{byteBytes, be16Bytes}
 use Rattle.octets.specs.declared.field.WordField.{WordField}
-use Rattle.sixlowpan.specs.NhcExt.{idOf, nextHeader, extRest, ext, extBytes}
+use Rattle.sixlowpan.specs.NhcExt.{idOf, extRest, ext, extBytes}
+use Rattle.sixlowpan.specs.Next.{nextHeader}
 use Rattle.sixlowpan.specs.NhcUdp.{port, bothPorts, ports, checksum, udpRest, udp, formOf, portBytes, portsBytes, udpBytes}
 use Rattle.sixlowpan.specs.declared.protocol.NextHeader.the-variants.{Uncompressed}
 use Rattle.sixlowpan.specs.declared.nhc.ExtHeaderId.the-variants.{Reserved}

@@ -6,24 +6,18 @@ use mathlib.Core.Bool.{Bool, true, false}
 use mathlib.Core.Path.{_≡_, refl, sym, _∙_}
 use lib.Dec.{eqb}
 use lib.ListN.{length, length-append}
-use borrow.Author.Tests.{eq-eqb, ne-eqb}
 use Rattle.octets.specs.Read.{choose}
 use Rattle.octets.specs.Write.{put, byteBytes, be16Bytes}
 use Rattle.octets.specs.declared.field.WordField.{WordField}
-use Rattle.octets.proofs.Puts.{more}
-use Rattle.sixlowpan.specs.NhcExt.{nhOf, nextWidth, nextBytes, extLength, extBytes}
+use Rattle.octets.proofs.Puts.{more, put-eq, put-ne}
+use Rattle.sixlowpan.specs.Next.{nextBytes}
+use Rattle.sixlowpan.specs.NhcExt.{extLength, extBytes}
 use Rattle.sixlowpan.specs.NhcUdp.{bitOf, portWidth, portsWidth, checksumWidth, portBytes, portsBytes, checksumBytes, udpForm, udpLength, udpBytes}
-use Rattle.sixlowpan.specs.declared.protocol.NextHeader.{NextHeader}
-use Rattle.sixlowpan.specs.declared.protocol.NextHeader.the-variants.{Compressed, Uncompressed}
 use Rattle.sixlowpan.specs.declared.nhc.ExtHeaderRepr.{ExtHeaderRepr}
 use Rattle.sixlowpan.specs.declared.nhc.UdpNhcRepr.{UdpNhcRepr}
+use Rattle.sixlowpan.proofs.NextLaws.{length-next, more-next}
 
 -- ---- lengths
-length-next : (x : NextHeader) → length (nextBytes x) ≡ nextWidth (nhOf x)
-unfolding byteBytes
-length-next (Uncompressed p) = refl
-length-next Compressed = refl
-
 pub length-ext : (h : ExtHeaderRepr) → length (extBytes h) ≡ extLength h
 unfolding byteBytes
 length-ext h = rw (length-append (nextBytes (h .«next_header»)) (byteBytes (h .length)), length-next (h .«next_header»)) (omega arith)
@@ -54,18 +48,8 @@ length-udp h = rw (length-append (portsBytes (udpForm h) (h .«src_port») (h .�
 pub more-port : (l m n : List ℕ) (at k x : ℕ) (short : Bool) (bs : List ℕ) → k ≡ portWidth short → m ≡ put at (portBytes short x) l → n ≡ put (at + k) bs m → n ≡ put at (portBytes short x ++ bs) l
 more-port l m n at k x short bs h p q = more l m n at k (portBytes short x) bs (length-port short x ∙ sym h) p q
 
-pub more-next : (l m n : List ℕ) (at k : ℕ) (x : NextHeader) (bs : List ℕ) → k ≡ nextWidth (nhOf x) → m ≡ put at (nextBytes x) l → n ≡ put (at + k) bs m → n ≡ put at (nextBytes x ++ bs) l
-more-next l m n at k x bs h p q = more l m n at k (nextBytes x) bs (length-next x ∙ sym h) p q
-
 -- the form and the width are those that calls gave
 pub more-ports : (l m n : List ℕ) (at k f p src dst : ℕ) (bs : List ℕ) → f ≡ p → k ≡ portsWidth f → m ≡ put at (portsBytes f src dst) l → n ≡ put (at + k) bs m → n ≡ put at (portsBytes p src dst ++ bs) l
 more-ports l m n at k f p src dst bs e h q r = rw (← e) (more l m n at k (portsBytes f src dst) bs (length-ports f src dst ∙ sym h) q r)
-
--- one of two runs, by a test
-pub put-eq : (a b at : ℕ) (cs bs l n : List ℕ) → a ≡ b → n ≡ put at cs l → n ≡ put at (choose (eqb a b) cs bs) l
-put-eq a b at cs bs l n h e = rw (eq-eqb a b h) e
-
-pub put-ne : (a b at : ℕ) (cs bs l n : List ℕ) → (a ≡ b → ⊥) → n ≡ put at bs l → n ≡ put at (choose (eqb a b) cs bs) l
-put-ne a b at cs bs l n h e = rw (ne-eqb a b h) e
 
 pub ruleset nhc-puts = (more-next, more-port, more-ports, put-eq, put-ne)

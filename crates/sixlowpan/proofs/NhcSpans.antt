@@ -1,36 +1,21 @@
 -- How far a compressed UDP or extension header goes: its first byte says it, and it ends within the bytes.
 use Prim.Native.Nat.{ℕ, _+_, _/_, _%_, _≤_}
 use mathlib.Core.List.{List}
-use native.Mathlib.Nat.{add-zero}
-use mathlib.Core.Bool.{Bool, true, false}
-use mathlib.Core.Path.{_≡_, subst}
+use mathlib.Core.Bool.{Bool}
+use mathlib.Core.Path.{_≡_}
 use lib.Dec.{eqb}
 use lib.ListN.{length}
 use Rattle.octets.specs.Read.{Reader, got, branch, byte, be16, refuse, give, _>>=_}
 use Rattle.octets.specs.declared.field.WordField.{WordField}
-use Rattle.octets.proofs.Spans.{Spans, First, spans-first, spans-then, spans-branch, spans-give, spans-refuse, spans-byte, spans-be16}
-use Rattle.sixlowpan.specs.NhcExt.{idOf, nextHeader, extRest, ext, nextWidth, extWidth}
+use Rattle.octets.proofs.Spans.{Spans, First, spans-first, spans-map, spans-both, spans-guard, spans-branch, spans-give, spans-byte, spans-be16}
+use Rattle.sixlowpan.specs.Next.{nextHeader, nextWidth}
+use Rattle.sixlowpan.specs.NhcExt.{idOf, extRest, ext, extWidth}
 use Rattle.sixlowpan.specs.NhcUdp.{port, bothPorts, ports, checksum, udpRest, udp, portWidth, portsWidth, checksumWidth, udpWidth}
-use Rattle.sixlowpan.specs.declared.protocol.NextHeader.the-variants.{Compressed, Uncompressed}
 use Rattle.sixlowpan.specs.declared.nhc.ExtHeaderRepr.{ExtHeaderRepr}
 use Rattle.sixlowpan.specs.declared.nhc.UdpNhcRepr.{UdpNhcRepr}
-
--- ---- a field of which a value is made, two of them, and one behind a test
-spans-map : {A B : Type 0} (m : Reader A) (f : A → B) (k : ℕ) → Spans m k → Spans (_>>=_ m (λ a. give (f a))) k
-spans-map m f k v = subst (Spans (_>>=_ m (λ a. give (f a)))) (add-zero k) (spans-then m (λ a. give (f a)) k 0 v (λ a. spans-give (f a)))
-
-spans-both : {A B C : Type 0} (m : Reader A) (k : Reader B) (f : A → B → C) (i j : ℕ) → Spans m i → Spans k j → Spans (_>>=_ m (λ a. _>>=_ k (λ b. give (f a b)))) (i + j)
-spans-both m k f i j v w = spans-then m (λ a. _>>=_ k (λ b. give (f a b))) i j v (λ a. spans-map k (f a) j w)
-
-spans-guard : {A : Type 0} (t : Bool) (m : Reader A) (r k : ℕ) → Spans m k → Spans (branch t m (refuse r)) k
-spans-guard true m r k v s at a n h e = v s at a n h e
-spans-guard false m r k v s at a n h e = spans-refuse r k s at a n h e
+use Rattle.sixlowpan.proofs.NextLaws.{spans-next}
 
 -- ---- extension headers
-spans-next : (nh : ℕ) → Spans (nextHeader nh) (nextWidth nh)
-unfolding nextHeader
-spans-next nh = spans-branch (eqb nh 0) _ (give Compressed) 1 0 (spans-map byte (λ p. Uncompressed (record { 0 = p })) 1 spans-byte) (spans-give Compressed)
-
 spans-ext-rest : (b : ℕ) → Spans (extRest b) (extWidth b)
 unfolding extRest
 spans-ext-rest b = spans-both (nextHeader (b % 2)) byte (λ x n. record { «ext_header_id» = idOf (b / 2 % 8); «next_header» = x; length = n }) (nextWidth (b % 2)) 1 (spans-next (b % 2)) spans-byte

@@ -9,7 +9,7 @@ use Rattle.octets.specs.declared.cursor.Cursor.{Cursor}
 use Rattle.octets.specs.declared.field.WordField.{WordField}
 use Rattle.octets.proofs.Steps.{on-is, on-refused}
 use Rattle.sixlowpan.specs.Nhc.{ofNhc}
-use Rattle.sixlowpan.specs.NhcExt.{ofExt, ofNext}
+use Rattle.sixlowpan.specs.NhcExt.{ofExt}
 use Rattle.sixlowpan.specs.NhcUdp.{ofUdp, ofPorts, ofChecksum}
 use Rattle.sixlowpan.specs.declared.protocol.NextHeader.{NextHeader}
 use Rattle.sixlowpan.specs.declared.nhc.NhcPacket.{NhcPacket}
@@ -17,12 +17,12 @@ use Rattle.sixlowpan.specs.declared.nhc.NhcAnswer.{NhcAnswer}
 use Rattle.sixlowpan.specs.declared.nhc.ExtHeaderId.{ExtHeaderId}
 use Rattle.sixlowpan.specs.declared.nhc.ExtHeaderRepr.{ExtHeaderRepr}
 use Rattle.sixlowpan.specs.declared.nhc.ExtParsed.{ExtParsed}
-use Rattle.sixlowpan.specs.declared.nhc.NextRead.{NextRead}
 use Rattle.sixlowpan.specs.declared.nhc.UdpNhcRepr.{UdpNhcRepr}
 use Rattle.sixlowpan.specs.declared.nhc.UdpParsed.{UdpParsed}
 use Rattle.sixlowpan.specs.declared.nhc.Ports.{Ports}
 use Rattle.sixlowpan.specs.declared.nhc.PortsRead.{PortsRead}
 use Rattle.sixlowpan.specs.declared.nhc.ChecksumRead.{ChecksumRead}
+use Rattle.sixlowpan.proofs.NextLaws.{on-next, no-next}
 
 pub on-nhc : {B : Type 0} {r : Answer B} {y : NhcAnswer} {x : NhcPacket} (m : Answer NhcPacket) (k : NhcPacket → Answer B) → ofNhc y ≡ m → y ≡ NhcAnswer.Is x → r ≡ k x → r ≡ andThen m k
 on-nhc {x = x} m k p q e = on-is ofNhc (NhcAnswer.Is x) x m k refl p q e
@@ -35,12 +35,6 @@ on-ext {h = h} {n = n} m k p q e = on-is ofExt (ExtParsed.Header h n) (record { 
 
 pub no-ext : {B : Type 0} {y : ExtParsed} {e : Refusal} (m : Read ExtHeaderRepr) (k : Placed ExtHeaderRepr → Answer B) → ofExt y ≡ m → y ≡ ExtParsed.Refused e → refused (numberOf e) ≡ andThen m k
 no-ext {e = e} m k p q = on-refused ofExt (ExtParsed.Refused e) (numberOf e) m k refl p q
-
-pub on-next : {B : Type 0} {r : Answer B} {y : NextRead} {x : NextHeader} {c : Cursor} (m : Read NextHeader) (k : Placed NextHeader → Answer B) → ofNext y ≡ m → y ≡ NextRead.Field x c → r ≡ k (record { value = x; next = c .at }) → r ≡ andThen m k
-on-next {x = x} {c = c} m k p q e = on-is ofNext (NextRead.Field x c) (record { value = x; next = c .at }) m k refl p q e
-
-pub no-next : {B : Type 0} {y : NextRead} {e : Refusal} (m : Read NextHeader) (k : Placed NextHeader → Answer B) → ofNext y ≡ m → y ≡ NextRead.Refused e → refused (numberOf e) ≡ andThen m k
-no-next {e = e} m k p q = on-refused ofNext (NextRead.Refused e) (numberOf e) m k refl p q
 
 pub on-udp : {B : Type 0} {r : Answer B} {y : UdpParsed} {h : UdpNhcRepr} {n : ℕ} (m : Read UdpNhcRepr) (k : Placed UdpNhcRepr → Answer B) → ofUdp y ≡ m → y ≡ UdpParsed.Header h n → r ≡ k (record { value = h; next = n }) → r ≡ andThen m k
 on-udp {h = h} {n = n} m k p q e = on-is ofUdp (UdpParsed.Header h n) (record { value = h; next = n }) m k refl p q e

@@ -7,36 +7,25 @@ use mathlib.Core.Bool.{Bool, true, false, _&&_, false≢true}
 use mathlib.Core.Path.{_≡_, refl, ap, subst, _∙_}
 use lib.Dec.{eqb}
 use lib.ListN.{length}
-use borrow.Author.Tests.{eqb-true, eq-eqb}
-use Rattle.octets.specs.Read.{Reader, got, choose, branch, byte, be16, refuse, give, _>>=_}
+use borrow.Author.Tests.{eqb-true}
+use Rattle.octets.specs.Read.{Reader, got, choose, byte, be16, give, _>>=_}
 use Rattle.octets.specs.Write.{over, byteBytes, be16Bytes}
 use Rattle.octets.specs.declared.field.WordField.{WordField}
-use Rattle.octets.proofs.RoundTrip.{Reads, reads-then, reads-map, reads-give, emit-then-read, reads-byte, reads-be16}
-use Rattle.sixlowpan.specs.NhcExt.{idOf, eidOf, nextHeader, extRest, ext, nhOf, nextBytes, extLength, extBytes}
+use Rattle.octets.proofs.RoundTrip.{Reads, reads-first, reads-both, reads-map, reads-give, emit-then-read, reads-byte, reads-be16}
+use Rattle.octets.proofs.Steps.{and-true}
+use Rattle.sixlowpan.specs.Next.{nextHeader, nextBit, nextBytes}
+use Rattle.sixlowpan.specs.NhcExt.{idOf, eidOf, extRest, ext, extLength, extBytes}
 use Rattle.sixlowpan.specs.NhcUdp.{port, bothPorts, ports, checksum, udpRest, udp, port8, port4, bothPort4, formOf, bitOf, portBytes, portsBytes, checksumBytes, udpForm, udpFirst, udpLength, udpBytes}
 use Rattle.sixlowpan.specs.declared.protocol.NextHeader.{NextHeader}
-use Rattle.sixlowpan.specs.declared.protocol.NextHeader.the-variants.{Compressed, Uncompressed}
 use Rattle.sixlowpan.specs.declared.nhc.ExtHeaderId.{ExtHeaderId}
 use Rattle.sixlowpan.specs.declared.nhc.ExtHeaderId.the-variants.{HopByHopHeader, RoutingHeader, FragmentHeader, DestinationOptionsHeader, MobilityHeader, Header, Reserved}
 use Rattle.sixlowpan.specs.declared.nhc.ExtHeaderRepr.{ExtHeaderRepr}
 use Rattle.sixlowpan.specs.declared.nhc.UdpNhcRepr.{UdpNhcRepr}
 use Rattle.sixlowpan.specs.declared.nhc.Ports.{Ports}
+use Rattle.sixlowpan.proofs.NextLaws.{reads-next, next-bit-lt}
 use Rattle.sixlowpan.proofs.NhcPuts.{length-ext, length-udp}
 
--- a first byte b whose test holds, then what it announces
-reads-first : {A : Type 0} (b d e : ℕ) (k : ℕ → Reader A) (t : ℕ → ℕ) (bs : List ℕ) (x : A) → t b ≡ d → Reads (k b) bs x → Reads (_>>=_ byte (λ a. branch (eqb (t a) d) (k a) (refuse e))) (byteBytes b ++ bs) x
-reads-first b d e k t bs x h r = reads-then byte (λ a. branch (eqb (t a) d) (k a) (refuse e)) (byteBytes b) bs b x (reads-byte b) (λ p q n l. rw (eq-eqb (t b) d h) (r p q n l))
-
--- two fields, made into one value
-reads-both : {A B C : Type 0} (m : Reader A) (k : Reader B) (f : A → B → C) (cs bs : List ℕ) (x : A) (y : B) → Reads m cs x → Reads k bs y → Reads (_>>=_ m (λ a. _>>=_ k (λ b. give (f a b)))) (cs ++ bs) (f x y)
-reads-both m k f cs bs x y r t = reads-then m (λ a. _>>=_ k (λ b. give (f a b))) cs bs x (f x y) r (reads-map k (f x) bs y t)
-
 -- ---- extension headers
-next-trip : (x : NextHeader) → Reads (nextHeader (nhOf x)) (nextBytes x) x
-unfolding nextHeader
-next-trip (Uncompressed p) = reads-map byte (λ z. Uncompressed (record { 0 = z })) (byteBytes (p .0)) (p .0) (reads-byte (p .0))
-next-trip Compressed = reads-give Compressed
-
 id-back : (i : ExtHeaderId) → (idOf (eidOf i) ≡ i) × (eidOf i < 8)
 unfolding idOf
 id-back HopByHopHeader = (refl, omega arith)
@@ -47,21 +36,17 @@ id-back MobilityHeader = (refl, omega arith)
 id-back Header = (refl, omega arith)
 id-back Reserved = (refl, omega arith)
 
-nh-small : (x : NextHeader) → nhOf x < 2
-nh-small (Uncompressed p) = omega arith
-nh-small Compressed = omega arith
-
 -- every EID e, also that which is never written
-ext-reads : (e : ℕ) (x : NextHeader) (n : ℕ) → e < 8 → Reads ext (byteBytes (0b1110 * 16 + e * 2 + nhOf x) ++ (nextBytes x ++ byteBytes n)) (record { «ext_header_id» = idOf e; «next_header» = x; length = n })
+ext-reads : (e : ℕ) (x : NextHeader) (n : ℕ) → e < 8 → Reads ext (byteBytes (0b1110 * 16 + e * 2 + nextBit x) ++ (nextBytes x ++ byteBytes n)) (record { «ext_header_id» = idOf e; «next_header» = x; length = n })
 unfolding ext extRest
 ext-reads e x n l =
-    let b : ℕ = 0b1110 * 16 + e * 2 + nhOf x in
-    let j = nh-small x in
+    let b : ℕ = 0b1110 * 16 + e * 2 + nextBit x in
+    let j = next-bit-lt x in
     let d : b / 16 ≡ 0b1110 = omega arith in
     let f : b / 2 % 8 ≡ e = omega arith in
-    let g : b % 2 ≡ nhOf x = omega arith in
+    let g : b % 2 ≡ nextBit x = omega arith in
     reads-first b 0b1110 2 extRest (λ a. a / 16) _ _ d
-    (rw (f, g) (reads-both (nextHeader (nhOf x)) byte (λ y m. record { «ext_header_id» = idOf e; «next_header» = y; length = m }) (nextBytes x) (byteBytes n) x n (next-trip x) (reads-byte n)))
+    (rw (f, g) (reads-both (nextHeader (nextBit x)) byte (λ y m. record { «ext_header_id» = idOf e; «next_header» = y; length = m }) (nextBytes x) (byteBytes n) x n (reads-next x) (reads-byte n)))
 
 pub ext-trip : (h : ExtHeaderRepr) → Reads ext (extBytes h) h
 ext-trip h =
@@ -73,7 +58,7 @@ pub ext-emit-parse : (h : ExtHeaderRepr) (room : List ℕ) → extLength h ≤ l
 ext-emit-parse h room e = emit-then-read ext (extBytes h) h (extLength h) room (ext-trip h) (length-ext h) e
 
 -- EID 6 is read as `Reserved`, which is written as 5: it comes back as 5
-pub six-back : (x : NextHeader) (n : ℕ) → Reads ext (byteBytes (0b1110 * 16 + 6 * 2 + nhOf x) ++ (nextBytes x ++ byteBytes n)) (record { «ext_header_id» = Reserved; «next_header» = x; length = n }) × (eidOf Reserved ≡ 5)
+pub six-back : (x : NextHeader) (n : ℕ) → Reads ext (byteBytes (0b1110 * 16 + 6 * 2 + nextBit x) ++ (nextBytes x ++ byteBytes n)) (record { «ext_header_id» = Reserved; «next_header» = x; length = n }) × (eidOf Reserved ≡ 5)
 unfolding idOf
 six-back x n = (ext-reads 6 x n (omega arith), refl)
 
@@ -99,10 +84,6 @@ both-trip src dst g h =
 
 two-trip : (a b : Bool) (src dst : ℕ) → (a ≡ true → port8 src ≡ true) → (b ≡ true → port8 dst ≡ true) → Reads (_>>=_ (port a) (λ s. _>>=_ (port b) (λ d. give (pair s d)))) (portBytes a src ++ portBytes b dst) (pair src dst)
 two-trip a b src dst g h = reads-both (port a) (port b) pair (portBytes a src) (portBytes b dst) src dst (port-trip a src g) (port-trip b dst h)
-
-and-true : (a b : Bool) → a && b ≡ true → (a ≡ true) × (b ≡ true)
-and-true true b h = (refl, h)
-and-true false b h = absurd (false≢true h)
 
 -- the form that is chosen is one that the two ports have
 ports-trip : (src dst : ℕ) → Reads (ports (formOf src dst)) (portsBytes (formOf src dst) src dst) (pair src dst)

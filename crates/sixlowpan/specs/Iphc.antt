@@ -13,8 +13,7 @@ use Rattle.ieee802154.specs.Address.{eui64}
 use Rattle.ieee802154.specs.declared.addr.Address.the-variants.{Absent, Short, Extended}
 use Rattle.ieee802154.specs.declared.addr.AddressField.{AddressField}
 use Rattle.sixlowpan.specs.Context.{contextAt}
-use Rattle.sixlowpan.specs.declared.protocol.NextHeader.{NextHeader}
-use Rattle.sixlowpan.specs.declared.protocol.NextHeader.the-variants.{Compressed, Uncompressed}
+use Rattle.sixlowpan.specs.Next.{nextHeader}
 use Rattle.sixlowpan.specs.declared.iphc_read.Base.{Base}
 use Rattle.sixlowpan.specs.declared.iphc_read.Contexts.{Contexts}
 use Rattle.sixlowpan.specs.declared.iphc_read.Traffic.{Traffic}
@@ -93,15 +92,6 @@ traffic tf =
     branch (eqb tf 0b00) classAndLabel
     (branch (eqb tf 0b01) ecnAndLabel
     (branch (eqb tf 0b10) classOnly (give (trafficOf ByteField.None ByteField.None WordField.None))))
-
--- ---- 3.1.1, NH: inline, or compressed with NHC
-unfoldable pub nextHeader : ℕ → Reader NextHeader
-nextHeader nh =
-    branch (eqb nh 0)
-    (do
-      b ← byte
-      give (Uncompressed (record { 0 = b })))
-    (give Compressed)
 
 -- ---- 3.1.1, HLIM: inline, 1, 64 or 255
 unfoldable pub hopLimit : ℕ → Reader ℕ

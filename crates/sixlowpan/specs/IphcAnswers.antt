@@ -3,7 +3,6 @@ use Prim.Native.Nat.{ℕ}
 use Rattle.octets.specs.Read.{Answer, is, refused, Read, got}
 use Rattle.octets.specs.Refusal.{numberOf}
 use Rattle.octets.specs.declared.ipv6.Ipv6Addr.{Ipv6Addr}
-use Rattle.sixlowpan.specs.declared.protocol.NextHeader.{NextHeader}
 use Rattle.sixlowpan.specs.declared.iphc_read.Contexts.{Contexts}
 use Rattle.sixlowpan.specs.declared.iphc_read.Traffic.{Traffic}
 use Rattle.sixlowpan.specs.declared.iphc_read.Front.{Front}
@@ -11,7 +10,6 @@ use Rattle.sixlowpan.specs.declared.iphc_read.Addresses.{Addresses}
 use Rattle.sixlowpan.specs.declared.iphc.Repr.{Repr}
 use Rattle.sixlowpan.specs.declared.iphc_read.ContextsRead.{ContextsRead}
 use Rattle.sixlowpan.specs.declared.iphc_read.TrafficRead.{TrafficRead}
-use Rattle.sixlowpan.specs.declared.iphc_read.NextRead.{NextRead}
 use Rattle.sixlowpan.specs.declared.iphc_read.FrontRead.{FrontRead}
 use Rattle.sixlowpan.specs.declared.iphc_read.AddrRead.{AddrRead}
 use Rattle.sixlowpan.specs.declared.iphc_read.AddressesRead.{AddressesRead}
@@ -25,10 +23,6 @@ ofContexts (ContextsRead.Refused e) = refused (numberOf e)
 abbrev pub ofTraffic : TrafficRead → Read Traffic
 ofTraffic (TrafficRead.Field x c) = got x (c .at)
 ofTraffic (TrafficRead.Refused e) = refused (numberOf e)
-
-abbrev pub ofNext : NextRead → Read NextHeader
-ofNext (NextRead.Field x c) = got x (c .at)
-ofNext (NextRead.Refused e) = refused (numberOf e)
 
 abbrev pub ofFront : FrontRead → Read Front
 ofFront (FrontRead.Field x c) = got x (c .at)

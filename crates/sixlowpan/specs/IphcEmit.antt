@@ -12,8 +12,8 @@ use Rattle.octets.specs.declared.ipv6.Ipv6Addr.{Ipv6Addr}
 use Rattle.ieee802154.specs.Address.{eui64}
 use Rattle.ieee802154.specs.declared.addr.Address.the-variants.{Absent, Short, Extended}
 use Rattle.ieee802154.specs.declared.addr.AddressField.{AddressField}
+use Rattle.sixlowpan.specs.Next.{nextBit, nextWidth, nextBytes}
 use Rattle.sixlowpan.specs.declared.protocol.NextHeader.{NextHeader}
-use Rattle.sixlowpan.specs.declared.protocol.NextHeader.the-variants.{Compressed, Uncompressed}
 use Rattle.sixlowpan.specs.declared.iphc_form.Inline.{Inline}
 use Rattle.sixlowpan.specs.declared.iphc_form.Inline.the-variants.{Nothing, Bits8, Bits16, Bits32, Bits48, Bits64, Bits128}
 use Rattle.sixlowpan.specs.declared.iphc_form.Form.{Form}
@@ -96,19 +96,6 @@ multicastForm a =
 unfoldable pub dstForm : Ipv6Addr → AddressField → Form
 dstForm a ll = choose (isMulticast a) (multicastForm a) (choose (isLinkLocal a) (iidForm (a .iid) ll) (fullForm 0b0000 a))
 
--- ---- 3.1.1, NH
-abbrev pub nextBit : NextHeader → ℕ
-nextBit Compressed = 1
-nextBit (Uncompressed p) = 0
-
-abbrev pub nextLength : NextHeader → ℕ
-nextLength Compressed = 0
-nextLength (Uncompressed p) = 1
-
-abbrev pub nextBytes : NextHeader → List ℕ
-nextBytes Compressed = []
-nextBytes (Uncompressed p) = byteBytes (p .0)
-
 -- ---- 3.1.1, HLIM
 abbrev pub hopBits : ℕ → ℕ
 hopBits h = choose (eqb h 1) 0b01 (choose (eqb h 64) 0b10 (choose (eqb h 255) 0b11 0b00))
@@ -126,7 +113,7 @@ baseWord n h s d = 0b011_11 * 2 ^ 11 + nextBit n * 2 ^ 10 + hopBits h * 2 ^ 8 + 
 
 -- what stands before the addresses
 abbrev pub frontLength : NextHeader → ℕ → ℕ
-frontLength n h = 2 + (nextLength n + hopLength h)
+frontLength n h = 2 + (nextWidth (nextBit n) + hopLength h)
 
 unfoldable pub frontBytes : NextHeader → ℕ → Form → Form → List ℕ
 frontBytes n h s d = be16Bytes (baseWord n h s d) ++ (nextBytes n ++ hopBytes h)

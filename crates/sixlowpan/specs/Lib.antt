@@ -1,5 +1,6 @@
 pub mod Dispatch
 pub mod Context
+pub mod Next
 pub mod IphcAnswers
 pub mod Iphc
 pub mod IphcEmit

@@ -5,21 +5,15 @@ use lib.Dec.{eqb}
 use Rattle.octets.specs.Read.{Read, Reader, got, refused, choose, branch, give, refuse, byte, _>>=_}
 use Rattle.octets.specs.Refusal.{numberOf}
 use Rattle.octets.specs.Write.{byteBytes}
-use Rattle.sixlowpan.specs.declared.protocol.NextHeader.{NextHeader}
-use Rattle.sixlowpan.specs.declared.protocol.NextHeader.the-variants.{Compressed, Uncompressed}
+use Rattle.sixlowpan.specs.Next.{nextHeader, nextBit, nextWidth, nextBytes}
 use Rattle.sixlowpan.specs.declared.nhc.ExtHeaderId.{ExtHeaderId}
 use Rattle.sixlowpan.specs.declared.nhc.ExtHeaderId.the-variants.{HopByHopHeader, RoutingHeader, FragmentHeader, DestinationOptionsHeader, MobilityHeader, Header, Reserved}
 use Rattle.sixlowpan.specs.declared.nhc.ExtHeaderRepr.{ExtHeaderRepr}
 use Rattle.sixlowpan.specs.declared.nhc.ExtParsed.{ExtParsed}
-use Rattle.sixlowpan.specs.declared.nhc.NextRead.{NextRead}
 
 abbrev pub ofExt : ExtParsed → Read ExtHeaderRepr
 ofExt (ExtParsed.Header h n) = got h n
 ofExt (ExtParsed.Refused e) = refused (numberOf e)
-
-abbrev pub ofNext : NextRead → Read NextHeader
-ofNext (NextRead.Field x c) = got x (c .at)
-ofNext (NextRead.Refused e) = refused (numberOf e)
 
 -- the table of EID: 5 and 6 are reserved
 unfoldable pub idOf : ℕ → ExtHeaderId
@@ -52,15 +46,6 @@ protocolOf MobilityHeader = 0
 protocolOf Header = 0
 protocolOf Reserved = 0
 
--- NH 0: the next header's 8 bits are carried inline; NH 1: they are elided, the next header is compressed too
-unfoldable pub nextHeader : ℕ → Reader NextHeader
-nextHeader nh =
-    branch (eqb nh 0)
-    (do
-      p ← byte
-      give (Uncompressed (record { 0 = p })))
-    (give Compressed)
-
 -- what follows the byte b, that is 1110, EID and NH: the next header and the length
 unfoldable pub extRest : ℕ → Reader ExtHeaderRepr
 extRest b = do
@@ -73,28 +58,16 @@ ext = do
   b ← byte
   branch (eqb (b / 16) 0b1110) (extRest b) (refuse 2)
 
--- ---- how many bytes carry the next header, and which they are
-abbrev pub nextWidth : ℕ → ℕ
-nextWidth nh = choose (eqb nh 0) 1 0
-
 -- how many bytes follow the first byte b
 abbrev pub extWidth : ℕ → ℕ
 extWidth b = nextWidth (b % 2) + 1
 
-abbrev pub nhOf : NextHeader → ℕ
-nhOf (Uncompressed p) = 0
-nhOf Compressed = 1
-
-abbrev pub nextBytes : NextHeader → List ℕ
-nextBytes (Uncompressed p) = byteBytes (p .0)
-nextBytes Compressed = []
-
 -- ---- the header's first byte, its length and its bytes
 abbrev pub extFirst : ExtHeaderRepr → ℕ
-extFirst h = 0b1110 * 16 + eidOf (h .«ext_header_id») * 2 + nhOf (h .«next_header»)
+extFirst h = 0b1110 * 16 + eidOf (h .«ext_header_id») * 2 + nextBit (h .«next_header»)
 
 abbrev pub extLength : ExtHeaderRepr → ℕ
-extLength h = 1 + (nextWidth (nhOf (h .«next_header»)) + 1)
+extLength h = 1 + (nextWidth (nextBit (h .«next_header»)) + 1)
 
 abbrev pub extBytes : ExtHeaderRepr → List ℕ
 extBytes h = byteBytes (extFirst h) ++ (nextBytes (h .«next_header») ++ byteBytes (h .length))

@@ -2,40 +2,15 @@
 ghost use mathlib.Core.Path.{_≡_};
 ghost use Prim.Native.Nat.{_≤_};
 ghost use Rattle.octets.specs.Write.{put};
-ghost use Rattle.sixlowpan.specs.IphcEmit.{nextBit, nextLength, nextBytes, hopBits, hopLength, hopBytes, baseWord};
+ghost use Rattle.sixlowpan.specs.IphcEmit.{hopBits, hopLength, hopBytes, baseWord};
 ghost use Rattle.sixlowpan.specs.IphcEmit.{frontLength, frontBytes, addressesLength, addressesBytes};
 use super::iphc_form::Form;
+use super::next::next_bit;
+use super::next::next_len;
+use super::next::put_next;
 use super::protocol::NextHeader;
 use octets::write::put_be16;
 use octets::write::put_byte;
-
-fn next_bit(n: NextHeader) -> u16
-    ensures { λ r. ⌜ r ≡ nextBit n ⌝ }
-    ensures { λ r. ⌜ r ≤ 1 ⌝ }
-{
-    match n {
-        NextHeader::Compressed => 1,
-        NextHeader::Uncompressed(_) => 0,
-    }
-}
-
-fn next_len(n: NextHeader) -> u8
-    ensures { λ r. ⌜ r ≡ nextLength n ⌝ }
-{
-    match n {
-        NextHeader::Compressed => 0,
-        NextHeader::Uncompressed(_) => 1,
-    }
-}
-
-fn put_next(buf: &mut [u8], at: usize, n: NextHeader)
-    ensures { λ _. ⌜ now (buf .exit) ≡ put at (nextBytes n) (now (buf .entry)) ⌝ }
-{
-    match n {
-        NextHeader::Compressed => {}
-        NextHeader::Uncompressed(p) => put_byte(buf, at, p.0),
-    }
-}
 
 fn hop_bits(h: u8) -> u16
     ensures { λ r. ⌜ r ≡ hopBits h ⌝ }
@@ -72,7 +47,7 @@ fn base_word(n: NextHeader, h: u8, src: Form, dst: Form) -> u16
     ensures { λ r. ⌜ r ≡ baseWord n h src dst ⌝ }
 {
     0b011_11 * 2048
-        + next_bit(n) * 1024
+        + (next_bit(n) as u16) * 1024
         + hop_bits(h) * 256
         + (src.mode as u16) * 16
         + (dst.mode as u16)
@@ -82,7 +57,7 @@ pub fn front_len(n: NextHeader, h: u8) -> usize
     ensures { λ r. ⌜ r ≡ frontLength n h ⌝ }
     ensures { λ r. ⌜ r ≤ 512 ⌝ }
 {
-    2 + ((next_len(n) as usize) + (hop_len(h) as usize))
+    2 + (next_len(n) + (hop_len(h) as usize))
 }
 
 // Puts what stands before the addresses at the front of the room.
@@ -90,7 +65,7 @@ pub fn put_front(buf: &mut [u8], n: NextHeader, h: u8, src: Form, dst: Form)
     ensures { λ _. ⌜ now (buf .exit) ≡ put 0 (frontBytes n h src dst) (now (buf .entry)) ⌝ }
 {
     let word = base_word(n, h, src, dst);
-    let hop = 2 + (next_len(n) as usize);
+    let hop = 2 + next_len(n);
     put_be16(buf, 0, word);
     put_next(buf, 2, n);
     put_hop(buf, hop, h);

@@ -3,12 +3,13 @@ ghost use mathlib.Core.Path.{_≡_};
 ghost use Rattle.octets.specs.Answers.{ofWord, ofByte, ofLong};
 ghost use Rattle.sixlowpan.specs.Context.{ofPrefix};
 ghost use Rattle.sixlowpan.specs.Iphc.{baseOf, base, contexts, labelled, classAndLabel, ecnAndLabel, classOnly, traffic};
-ghost use Rattle.sixlowpan.specs.Iphc.{nextHeader, hopLimit, frontRest, front, linkIid, identifier, prefixOf, full, elided};
+ghost use Rattle.sixlowpan.specs.Iphc.{hopLimit, frontRest, front, linkIid, identifier, prefixOf, full, elided};
 ghost use Rattle.sixlowpan.specs.Iphc.{source, group48, group32, group8, multicast, destination, addresses};
-ghost use Rattle.sixlowpan.specs.IphcAnswers.{ofContexts, ofTraffic, ofNext, ofFront, ofIid, ofAddr, ofAddresses};
+ghost use Rattle.sixlowpan.specs.IphcAnswers.{ofContexts, ofTraffic, ofFront, ofIid, ofAddr, ofAddresses};
 use super::context::PrefixAnswer;
 use super::context::prefix_at;
-use super::protocol::IpProtocol;
+use super::next::NextRead;
+use super::next::read_next;
 use super::protocol::NextHeader;
 use ieee802154::addr::Address;
 use ieee802154::addr::AddressField;
@@ -69,11 +70,6 @@ pub enum ContextsRead {
 
 pub enum TrafficRead {
     Field(Traffic, Cursor),
-    Refused(Refusal),
-}
-
-pub enum NextRead {
-    Field(NextHeader, Cursor),
     Refused(Refusal),
 }
 
@@ -232,19 +228,6 @@ fn read_traffic(buf: &[u8], c: Cursor, tf: u8) -> TrafficRead
     )
 }
 
-fn read_next_header(buf: &[u8], c: Cursor, nh: u8) -> NextRead
-    ensures { λ r. ⌜ ofNext r ≡ nextHeader nh (now (buf .entry)) (c .at) ⌝ }
-{
-    if nh == 0 {
-        match c.byte(buf) {
-            ByteRead::Field(b, d) => NextRead::Field(NextHeader::Uncompressed(IpProtocol(b)), d),
-            ByteRead::Refused(e) => NextRead::Refused(e),
-        }
-    } else {
-        NextRead::Field(NextHeader::Compressed, c)
-    }
-}
-
 fn read_hop_limit(buf: &[u8], c: Cursor, hlim: u8) -> ByteRead
     ensures { λ r. ⌜ ofByte r ≡ hopLimit hlim (now (buf .entry)) (c .at) ⌝ }
 {
@@ -263,7 +246,7 @@ fn read_hop_limit(buf: &[u8], c: Cursor, hlim: u8) -> ByteRead
 fn front_rest(buf: &[u8], c: Cursor, b: Base, contexts: Contexts, traffic: Traffic) -> FrontRead
     ensures { λ r. ⌜ ofFront r ≡ frontRest b contexts traffic (now (buf .entry)) (c .at) ⌝ }
 {
-    match read_next_header(buf, c, b.nh) {
+    match read_next(buf, c, b.nh) {
         NextRead::Field(next_header, d) => match read_hop_limit(buf, d, b.hlim) {
             ByteRead::Field(hop_limit, e) => FrontRead::Field(
                 Front {

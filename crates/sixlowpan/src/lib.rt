@@ -13,6 +13,7 @@ pub mod iphc;
 mod iphc_emit;
 mod iphc_form;
 mod iphc_read;
+mod next;
 pub mod nhc;
 pub mod protocol;
 

@@ -4,8 +4,13 @@ ghost use Prim.Native.Nat.{_≤_, _<_};
 ghost use Rattle.octets.specs.Answers.{ofWord};
 ghost use Rattle.octets.specs.Write.{ofWritten, wrote, over, put};
 ghost use Rattle.sixlowpan.specs.Nhc.{ofNhc, nhcOf, nhc};
-ghost use Rattle.sixlowpan.specs.NhcExt.{ofExt, ofNext, idOf, eidOf, protocolOf, nextHeader, ext, extRest, nhOf, nextWidth, nextBytes, extFirst, extLength, extBytes};
+ghost use Rattle.sixlowpan.specs.NhcExt.{ofExt, idOf, eidOf, protocolOf, ext, extRest, extFirst, extLength, extBytes};
 ghost use Rattle.sixlowpan.specs.NhcUdp.{ofUdp, ofPorts, ofChecksum, port8, port4, bothPort4, formOf, port, ports, bothPorts, checksum, udp, udpRest, bitOf, portWidth, portsWidth, checksumWidth, portBytes, portsBytes, checksumBytes, udpFirst, udpLength, udpBytes};
+use super::next::NextRead;
+use super::next::next_bit;
+use super::next::next_len;
+use super::next::put_next;
+use super::next::read_next;
 use super::protocol::IpProtocol;
 use super::protocol::NextHeader;
 use octets::cursor::ByteRead;
@@ -131,54 +136,6 @@ pub enum ExtParsed {
     Refused(Refusal),
 }
 
-enum NextRead {
-    Field(NextHeader, Cursor),
-    Refused(Refusal),
-}
-
-// A next header: inline where the bit NH is clear.
-fn read_next(buf: &[u8], nh: u8, c: Cursor) -> NextRead
-    ensures { λ r. ⌜ ofNext r ≡ nextHeader nh (now (buf .entry)) (c .at) ⌝ }
-{
-    if nh == 0 {
-        match c.byte(buf) {
-            ByteRead::Field(p, d) => NextRead::Field(NextHeader::Uncompressed(IpProtocol(p)), d),
-            ByteRead::Refused(e) => NextRead::Refused(e),
-        }
-    } else {
-        NextRead::Field(NextHeader::Compressed, c)
-    }
-}
-
-// The bit NH.
-fn next_bit(next: NextHeader) -> u8
-    ensures { λ r. ⌜ (r ≡ nhOf next) × (r ≤ 1) ⌝ }
-{
-    match next {
-        NextHeader::Compressed => 1,
-        NextHeader::Uncompressed(_) => 0,
-    }
-}
-
-// How many bytes carry the next header.
-fn next_len(next: NextHeader) -> usize
-    ensures { λ r. ⌜ (r ≡ nextWidth (nhOf next)) × (r ≤ 1) ⌝ }
-{
-    match next {
-        NextHeader::Compressed => 0,
-        NextHeader::Uncompressed(_) => 1,
-    }
-}
-
-fn put_next(buf: &mut [u8], at: usize, next: NextHeader)
-    ensures { λ _. ⌜ now (buf .exit) ≡ put at (nextBytes next) (now (buf .entry)) ⌝ }
-{
-    match next {
-        NextHeader::Compressed => {}
-        NextHeader::Uncompressed(p) => put_byte(buf, at, p.0),
-    }
-}
-
 impl ExtHeaderRepr {
     // The header that stands at the front of the bytes, without its payload.
     pub fn parse(buf: &[u8]) -> ExtParsed
@@ -208,7 +165,7 @@ impl ExtHeaderRepr {
         ensures { λ r. ⌜ ofExt r ≡ extRest b (now (buf .entry)) (c .at) ⌝ }
     {
         let ext_header_id = ExtHeaderId::of_eid(b / 2 % 8);
-        match read_next(buf, b % 2, c) {
+        match read_next(buf, c, b % 2) {
             NextRead::Field(next_header, d) => match d.byte(buf) {
                 ByteRead::Field(length, e) => ExtParsed::Header(
                     ExtHeaderRepr {

@@ -10,6 +10,9 @@ mul-result c = search needs
 next-bit-requires : tie.Need-next-bit-requires
 next-bit-requires c κs = search needs
 
+cast-result : tie.Need-cast-result
+cast-result c = search needs
+
 mul-result-2 : tie.Need-mul-result-2
 mul-result-2 c = search needs
 
@@ -25,8 +28,8 @@ mul-result-3 c = search needs
 add-result-2 : tie.Need-add-result-2
 add-result-2 c = search needs
 
-cast-result : tie.Need-cast-result
-cast-result c = search needs
+cast-result-2 : tie.Need-cast-result-2
+cast-result-2 c = search needs
 
 mul-result-4 : tie.Need-mul-result-4
 mul-result-4 c = search needs
@@ -34,8 +37,8 @@ mul-result-4 c = search needs
 add-result-3 : tie.Need-add-result-3
 add-result-3 c = search needs
 
-cast-result-2 : tie.Need-cast-result-2
-cast-result-2 c = search needs
+cast-result-3 : tie.Need-cast-result-3
+cast-result-3 c = search needs
 
 add-result-4 : tie.Need-add-result-4
 add-result-4 c = search needs
@@ -50,14 +53,15 @@ base-word-spec =
     (tie.spec
     mul-result
     next-bit-requires
+    cast-result
     mul-result-2
     add-result
     hop-bits-requires
     mul-result-3
     add-result-2
-    cast-result
+    cast-result-2
     mul-result-4
     add-result-3
-    cast-result-2
+    cast-result-3
     add-result-4
     returns)

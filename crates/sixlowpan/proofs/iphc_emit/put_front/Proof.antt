@@ -10,9 +10,6 @@ base-word-requires c κs = search needs
 next-len-requires : tie.Need-next-len-requires
 next-len-requires c κs = search needs
 
-cast-hop : tie.Need-cast-hop
-cast-hop c = search needs
-
 add-hop : tie.Need-add-hop
 add-hop c = search needs
 
@@ -38,7 +35,6 @@ put-front-spec =
     (tie.spec
     base-word-requires
     next-len-requires
-    cast-hop
     add-hop
     put-be16-requires
     put-next-requires

@@ -1,6 +1,5 @@
 use mathlib.Core.Path.{sym, _∙_}
-use borrow.Author.Tests.{eq-eqb, ne-eqb}
-use Rattle.octets.proofs.Puts.{put-nil, if-put, if-not-put}
+use Rattle.octets.proofs.Puts.{put-nil, put-eq, put-ne}
 use borrow.Author.Needs.{needs}
 use Rattle.sixlowpan.proofs.iphc_emit.put_hop.Statement.{statement}
 use Rattle.sixlowpan.proofs.iphc_emit.put_hop.Tie as tie
@@ -15,10 +14,10 @@ same-length : tie.Need-same-length
 same-length c = search needs
 
 returns : tie.Need-returns
-returns c = if-put _ _ _ _ _ _ (eq-eqb _ _ (sym (c .before .before .before .before .before .hop-bits .ensures .0) ∙ c .before .before .before .before .if1 .taken)) (c .before .before .put-byte .ensures)
+returns c = put-eq _ _ _ _ _ _ _ ((sym (c .before .before .before .before .before .hop-bits .ensures .0) ∙ c .before .before .before .before .if1 .taken)) (c .before .before .put-byte .ensures)
 
 returns-2 : tie.Need-returns-2
-returns-2 c = if-not-put _ _ _ _ _ _ (ne-eqb _ _ (λ e. c .if1 .left (c .before .hop-bits .ensures .0 ∙ e))) (put-nil _ _)
+returns-2 c = put-ne _ _ _ _ _ _ _ ((λ e. c .if1 .left (c .before .hop-bits .ensures .0 ∙ e))) (put-nil _ _)
 
 pub put-hop-spec : {M : Type 1} → statement M
 put-hop-spec =

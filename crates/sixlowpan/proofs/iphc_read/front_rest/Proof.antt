@@ -5,8 +5,8 @@ use borrow.Author.Needs.{needs}
 use Rattle.sixlowpan.proofs.iphc_read.front_rest.Statement.{statement}
 use Rattle.sixlowpan.proofs.iphc_read.front_rest.Tie as tie
 
-read-next-header-requires : tie.Need-read-next-header-requires
-read-next-header-requires c κs = search needs
+read-next-requires : tie.Need-read-next-requires
+read-next-requires c κs = search needs
 
 enum-known-next-header : tie.Need-enum-known-next-header
 enum-known-next-header c = search needs
@@ -39,7 +39,7 @@ pub front-rest-spec : {M : Type 1} → statement M
 front-rest-spec =
     tie.close
     (tie.spec
-    read-next-header-requires
+    read-next-requires
     enum-known-next-header
     read-hop-limit-requires
     enum-known-hop-limit

@@ -1,8 +1,8 @@
 use Rattle.octets.proofs.Steps.{steps}
-use Rattle.sixlowpan.specs.NhcExt.{nextHeader}
+use Rattle.sixlowpan.specs.Next.{nextHeader}
 use borrow.Author.Needs.{needs}
-use Rattle.sixlowpan.proofs.nhc.read_next.Statement.{statement}
-use Rattle.sixlowpan.proofs.nhc.read_next.Tie as tie
+use Rattle.sixlowpan.proofs.next.read_next.Statement.{statement}
+use Rattle.sixlowpan.proofs.next.read_next.Tie as tie
 
 byte-requires : tie.Need-byte-requires
 byte-requires c κs = search needs

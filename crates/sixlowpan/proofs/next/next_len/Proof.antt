@@ -1,8 +1,8 @@
 use Rattle.octets.proofs.Steps.{case}
-use Rattle.sixlowpan.specs.NhcExt.{nhOf, nextWidth}
+use Rattle.sixlowpan.specs.Next.{nextBit, nextWidth}
 use borrow.Author.Needs.{needs}
-use Rattle.sixlowpan.proofs.nhc.next_len.Statement.{statement}
-use Rattle.sixlowpan.proofs.nhc.next_len.Tie as tie
+use Rattle.sixlowpan.proofs.next.next_len.Statement.{statement}
+use Rattle.sixlowpan.proofs.next.next_len.Tie as tie
 
 enum-told : tie.Need-enum-told
 enum-told c = search needs
@@ -11,10 +11,10 @@ enum-told-2 : tie.Need-enum-told-2
 enum-told-2 c = search needs
 
 returns : tie.Need-returns
-returns c = (search (case (λ x. nextWidth (nhOf x))), search needs)
+returns c = (search (case (λ x. nextWidth (nextBit x))), search needs)
 
 returns-2 : tie.Need-returns-2
-returns-2 c = (search (case (λ x. nextWidth (nhOf x))), search needs)
+returns-2 c = (search (case (λ x. nextWidth (nextBit x))), search needs)
 
 pub next-len-spec : {M : Type 1} → statement M
 next-len-spec = tie.close (tie.spec enum-told enum-told-2 returns returns-2)

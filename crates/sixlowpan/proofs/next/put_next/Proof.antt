@@ -1,8 +1,8 @@
 use Rattle.octets.proofs.Puts.{puts, case-put, put-nil}
-use Rattle.sixlowpan.specs.NhcExt.{nextBytes}
+use Rattle.sixlowpan.specs.Next.{nextBytes}
 use borrow.Author.Needs.{needs}
-use Rattle.sixlowpan.proofs.nhc.put_next.Statement.{statement}
-use Rattle.sixlowpan.proofs.nhc.put_next.Tie as tie
+use Rattle.sixlowpan.proofs.next.put_next.Statement.{statement}
+use Rattle.sixlowpan.proofs.next.put_next.Tie as tie
 
 enum-told : tie.Need-enum-told
 enum-told c = search needs
