@@ -1,0 +1,24 @@
+//! The oracle: the Rust's own answers to the commands of the line protocol, made-up commands, and the comparison (README.md).
+
+use std::process::exit;
+
+mod answer;
+mod rules;
+mod text;
+
+pub fn main() {
+    let args: Vec<String> = std::env::args().skip(1).collect();
+    let args: Vec<&str> = args.iter().map(String::as_str).collect();
+    let done = match args[..] {
+        ["answer"] => answer::run(false),
+        ["answer01"] => answer::run(true),
+        _ => {
+            eprintln!("usage: oracle answer | answer01");
+            exit(2)
+        }
+    };
+    if let Err(e) = done {
+        eprintln!("oracle: {e}");
+        exit(1)
+    }
+}
