@@ -3,8 +3,11 @@
 use std::process::exit;
 
 mod answer;
+mod generate;
 mod rules;
+mod sink;
 mod text;
+mod values;
 
 pub fn main() {
     let args: Vec<String> = std::env::args().skip(1).collect();
@@ -12,8 +15,9 @@ pub fn main() {
     let done = match args[..] {
         ["answer"] => answer::run(false),
         ["answer01"] => answer::run(true),
+        ["gen", kind, seed, count] => generate::run(kind, seed, count),
         _ => {
-            eprintln!("usage: oracle answer | answer01");
+            eprintln!("usage: oracle answer | answer01 | gen KIND SEED COUNT");
             exit(2)
         }
     };
