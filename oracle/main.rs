@@ -3,6 +3,7 @@
 use std::process::exit;
 
 mod answer;
+mod compare;
 mod generate;
 mod rules;
 mod sink;
@@ -16,8 +17,9 @@ pub fn main() {
         ["answer"] => answer::run(false),
         ["answer01"] => answer::run(true),
         ["gen", kind, seed, count] => generate::run(kind, seed, count),
+        ["compare", lines, ours, theirs] => compare::run(lines, ours, theirs),
         _ => {
-            eprintln!("usage: oracle answer | answer01 | gen KIND SEED COUNT");
+            eprintln!("usage: oracle answer | answer01 | gen KIND SEED COUNT | compare LINES OURS THEIRS");
             exit(2)
         }
     };

@@ -6,25 +6,26 @@ use crate::wire::ieee802154::Address;
 use crate::wire::ip::Protocol;
 use crate::wire::sixlowpan::NextHeader;
 
-/// The fields of a line that are still to be read.
-pub struct Fields<'a>(std::slice::Split<'a, u8, fn(&u8) -> bool>);
-
-fn is_space(b: &u8) -> bool {
-    *b == b' '
-}
+/// The fields of a line that are still to be read; `None` behind the last.
+pub struct Fields<'a>(Option<&'a [u8]>);
 
 impl<'a> Fields<'a> {
     pub fn of(line: &'a [u8]) -> Self {
-        Fields(line.split(is_space as fn(&u8) -> bool))
+        Fields(Some(line))
     }
 
     pub fn next(&mut self) -> Option<&'a [u8]> {
-        self.0.next()
+        let rest = self.0?;
+        let Some(space) = rest.iter().position(|b| *b == b' ') else {
+            return self.0.take();
+        };
+        self.0 = Some(&rest[space + 1..]);
+        Some(&rest[..space])
     }
 
     /// The line ends here.
     pub fn end(&mut self) -> Option<()> {
-        self.0.next().is_none().then_some(())
+        self.0.is_none().then_some(())
     }
 
     /// Bytes in hexadecimal, `-` for none, into `bytes`.
@@ -112,12 +113,23 @@ impl<'a> Fields<'a> {
     }
 }
 
-fn digit(b: u8) -> Option<u8> {
-    match b {
-        b'0'..=b'9' => Some(b - b'0'),
-        b'a'..=b'f' => Some(b - b'a' + 10),
-        _ => None,
+/// The value of each hexadecimal digit, and NONE for every other byte.
+const VALUES: [u8; 256] = {
+    let mut values = [NONE; 256];
+    let mut n = 0;
+    while n < 16 {
+        values[DIGITS[n] as usize] = n as u8;
+        n += 1;
     }
+    values
+};
+
+const NONE: u8 = 0xff;
+const DIGITS: &[u8; 16] = b"0123456789abcdef";
+
+fn digit(b: u8) -> Option<u8> {
+    let value = VALUES[b as usize];
+    (value != NONE).then_some(value)
 }
 
 /// A number of exactly so many hexadecimal digits.
@@ -143,8 +155,6 @@ fn decimal(text: &[u8]) -> Option<usize> {
     }
     Some(n)
 }
-
-const DIGITS: &[u8; 16] = b"0123456789abcdef";
 
 /// A line being written. Every field but the first brings the space before it.
 pub trait Line {
