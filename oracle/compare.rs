@@ -52,13 +52,14 @@ struct Counts {
 }
 
 /// The answer that document 01 wants where it decides against the Rust.
-fn wanted(line: &[u8], frame: &mut Vec<u8>) -> Option<(Listed, Vec<u8>)> {
+pub fn wanted(line: &[u8], frame: &mut Vec<u8>) -> Option<(Listed, Vec<u8>)> {
     if !line.starts_with(b"mac.parse ") {
         return None;
     }
     let mut fields = Fields::of(line);
     fields.next()?;
     fields.bytes_into(frame)?;
+    fields.end()?;
     let case = listed(frame)?;
     let mut answer = Vec::new();
     mac_01(rules::mac(frame), &mut answer);

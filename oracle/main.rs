@@ -5,6 +5,7 @@ use std::process::exit;
 mod answer;
 mod compare;
 mod generate;
+mod list;
 mod rules;
 mod sink;
 mod text;
@@ -17,9 +18,10 @@ pub fn main() {
         ["answer"] => answer::run(false),
         ["answer01"] => answer::run(true),
         ["gen", kind, seed, count] => generate::run(kind, seed, count),
+        ["list"] => list::run(),
         ["compare", lines, ours, theirs] => compare::run(lines, ours, theirs),
         _ => {
-            eprintln!("usage: oracle answer | answer01 | gen KIND SEED COUNT | compare LINES OURS THEIRS");
+            eprintln!("usage: oracle answer | answer01 | gen KIND SEED COUNT | compare LINES OURS THEIRS | list");
             exit(2)
         }
     };
