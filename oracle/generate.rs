@@ -55,18 +55,21 @@ const KINDS: [(&str, Kind); 19] = [
     ("damaged", damaged),
 ];
 
+/// Writes the lines of a kind.
+pub fn write(kind: &str, seed: usize, count: usize, out: &mut dyn Write) -> io::Result<()> {
+    let known = KINDS.iter().find(|k| k.0 == kind);
+    let make = known.ok_or_else(|| io::Error::other(format!("gen: no kind {kind}")))?.1;
+    let name: u64 = kind.bytes().fold(0, |n, b| n.wrapping_mul(257).wrapping_add(b.into()));
+    let mut rng = Rng(name ^ (seed as u64) << 32);
+    make(&mut Sink::new(out), &mut rng, Numbers { seed, count });
+    Ok(())
+}
+
 /// Writes the lines of a kind to standard output.
 pub fn run(kind: &str, seed: &str, count: &str) -> io::Result<()> {
-    let no = |what: &str| io::Error::other(format!("gen: {what}"));
-    let make = KINDS.iter().find(|k| k.0 == kind).ok_or_else(|| no("no such kind"))?.1;
-    let numbers = Numbers {
-        seed: seed.parse().map_err(|_| no("the seed is no number"))?,
-        count: count.parse().map_err(|_| no("the count is no number"))?,
-    };
-    let name: u64 = kind.bytes().fold(0, |n, b| n.wrapping_mul(257).wrapping_add(b.into()));
-    let mut rng = Rng(name ^ (numbers.seed as u64) << 32);
+    let number = |text: &str| text.parse().map_err(|_| io::Error::other(format!("gen: {text} is no number")));
     let mut out = BufWriter::with_capacity(1 << 16, io::stdout().lock());
-    make(&mut Sink::new(&mut out), &mut rng, numbers);
+    write(kind, number(seed)?, number(count)?, &mut out)?;
     out.flush()
 }
 

@@ -8,6 +8,7 @@ mod generate;
 mod list;
 mod rules;
 mod sink;
+mod speed;
 mod text;
 mod values;
 
@@ -18,10 +19,11 @@ pub fn main() {
         ["answer"] => answer::run(false),
         ["answer01"] => answer::run(true),
         ["gen", kind, seed, count] => generate::run(kind, seed, count),
+        ["speed", program] => speed::run(program),
         ["list"] => list::run(),
         ["compare", lines, ours, theirs] => compare::run(lines, ours, theirs),
         _ => {
-            eprintln!("usage: oracle answer | answer01 | gen KIND SEED COUNT | compare LINES OURS THEIRS | list");
+            eprintln!("usage: oracle answer | answer01 | gen KIND SEED COUNT | compare LINES OURS THEIRS | list | speed PROGRAM");
             exit(2)
         }
     };

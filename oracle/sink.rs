@@ -11,12 +11,11 @@ use crate::wire::sixlowpan::{NextHeader, frag, iphc};
 pub struct Sink<'a> {
     out: &'a mut dyn Write,
     line: Vec<u8>,
-    pub count: usize,
 }
 
 impl<'a> Sink<'a> {
     pub fn new(out: &'a mut dyn Write) -> Self {
-        Sink { out, line: Vec::new(), count: 0 }
+        Sink { out, line: Vec::new() }
     }
 
     fn start(&mut self, name: &str) -> &mut Vec<u8> {
@@ -28,7 +27,6 @@ impl<'a> Sink<'a> {
         self.line.push(b'\n');
         self.out.write_all(&self.line).expect("the lines can be written");
         self.line.clear();
-        self.count += 1;
     }
 
     /// A line as it stands.
