@@ -184,11 +184,7 @@ impl Answerer {
     }
 
     fn ext_emit(&mut self, f: &mut Fields, out: &mut Vec<u8>) -> Option<()> {
-        let repr = ExtHeaderRepr {
-            ext_header_id: ext_id(f.next()?)?,
-            next_header: f.next_header()?,
-            length: f.byte()?,
-        };
+        let repr = ExtHeaderRepr { ext_header_id: ext_id(f.next()?)?, next_header: f.next_header()?, length: f.byte()? };
         self.writer(f, out, repr.buffer_len(), |room| repr.emit(room))
     }
 
@@ -204,11 +200,7 @@ impl Answerer {
     }
 
     fn udp_emit(&mut self, f: &mut Fields, out: &mut Vec<u8>) -> Option<()> {
-        let repr = UdpNhcRepr {
-            src_port: f.word()?,
-            dst_port: f.word()?,
-            checksum: f.maybe_word()?,
-        };
+        let repr = UdpNhcRepr { src_port: f.word()?, dst_port: f.word()?, checksum: f.maybe_word()? };
         self.writer(f, out, repr.buffer_len(), |room| repr.emit(room))
     }
 
@@ -269,12 +261,7 @@ pub fn mac_01(rule: Result<(ieee802154::Repr, usize), u8>, out: &mut Vec<u8>) {
 }
 
 /// A reader's answer: the Rust's value, or the number that 01 gives for its refusal.
-fn reader<T>(
-    rust: Option<Result<T, Malformed>>,
-    rule: Result<(), u8>,
-    out: &mut Vec<u8>,
-    show: impl FnOnce(T, &mut Vec<u8>),
-) {
+fn reader<T>(rust: Option<Result<T, Malformed>>, rule: Result<(), u8>, out: &mut Vec<u8>, show: impl FnOnce(T, &mut Vec<u8>)) {
     match (rust, rule) {
         (None, _) => out.extend_from_slice(b"panic"),
         (Some(Ok(value)), Ok(())) => {

@@ -8,9 +8,7 @@ use std::ops::Range;
 
 use crate::oracle::rules::{self, Control};
 use crate::oracle::sink::Sink;
-use crate::oracle::values::{
-    self, BYTES, EXT, HOPS, KINDS_OF_LINK, LINKS, PORTS, ROOMS, Rng, SHORT_1234, WORDS, from_link,
-};
+use crate::oracle::values::{self, BYTES, EXT, HOPS, KINDS_OF_LINK, LINKS, PORTS, ROOMS, Rng, SHORT_1234, WORDS, from_link};
 use crate::wire::ieee802154::{self, Address, FrameType, FrameVersion, Pan};
 use crate::wire::ip::Protocol;
 use crate::wire::ipv6;
@@ -579,9 +577,7 @@ pub fn mac_written(rng: &mut Rng, repr: &ieee802154::Repr) -> Vec<u8> {
 
 pub fn ext_written(rng: &mut Rng) -> Vec<u8> {
     use ExtHeaderId::*;
-    let ids = [
-        HopByHopHeader, RoutingHeader, FragmentHeader, DestinationOptionsHeader, MobilityHeader, Reserved, Header,
-    ];
+    let ids = [HopByHopHeader, RoutingHeader, FragmentHeader, DestinationOptionsHeader, MobilityHeader, Reserved, Header];
     let repr = ExtHeaderRepr { ext_header_id: rng.pick(&ids), next_header: any_next(rng), length: rng.byte() };
     let mut bytes = vec![0; repr.buffer_len()];
     repr.emit(&mut bytes);

@@ -5,9 +5,7 @@
 use std::io::{self, Write};
 
 use crate::oracle::compare::wanted;
-use crate::oracle::generate::{
-    self, any_mac, damaged_one, iphc_between, iphc_bytes, iphc_written, mac_frame, mac_lengths,
-};
+use crate::oracle::generate::{self, any_mac, damaged_one, iphc_between, iphc_bytes, iphc_written, mac_frame, mac_lengths};
 use crate::oracle::rules::Control;
 use crate::oracle::sink::Sink;
 use crate::oracle::values::{

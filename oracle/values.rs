@@ -85,8 +85,7 @@ pub const WORDS: [u16; 32] = [
 pub const BYTES: [u8; 16] = [0, 1, 2, 3, 4, 7, 8, 15, 16, 31, 32, 63, 64, 127, 128, 255];
 
 /// Both sides of every port range of RFC 6282 4.3.1.
-pub const PORTS: [u16; 13] =
-    [0, 1, 0xefff, 0xf000, 0xf001, 0xf0af, 0xf0b0, 0xf0b1, 0xf0bf, 0xf0c0, 0xf0ff, 0xf100, 0xffff];
+pub const PORTS: [u16; 13] = [0, 1, 0xefff, 0xf000, 0xf001, 0xf0af, 0xf0b0, 0xf0b1, 0xf0bf, 0xf0c0, 0xf0ff, 0xf100, 0xffff];
 
 /// Around the hop limits that HLIM names.
 pub const HOPS: [u8; 8] = [0, 1, 2, 63, 64, 65, 254, 255];
@@ -201,5 +200,4 @@ pub fn all_bits_matter() -> [[u8; 16]; 6] {
 }
 
 /// Rooms around the length, and fixed ones.
-pub const ROOMS: [&str; 18] =
-    ["=", "-1", "-2", "+1", "+7", "0", "1", "2", "3", "4", "5", "6", "7", "9", "20", "36", "128", "512"];
+pub const ROOMS: [&str; 18] = ["=", "-1", "-2", "+1", "+7", "0", "1", "2", "3", "4", "5", "6", "7", "9", "20", "36", "128", "512"];
