@@ -31,7 +31,7 @@ impl Numbers {
 
 type Kind = fn(&mut Sink, &mut Rng, Numbers);
 
-const KINDS: [(&str, Kind); 19] = [
+const KINDS: [(&str, Kind); 21] = [
     ("first-bytes", first_bytes),
     ("addresses", addresses),
     ("mac-controls", mac_controls),
@@ -50,6 +50,8 @@ const KINDS: [(&str, Kind); 19] = [
     ("iphc-contexts", iphc_contexts),
     ("iphc-writes", iphc_writes),
     ("iphc-random", iphc_random),
+    ("dispatch-random", dispatch_random),
+    ("writes-random", writes_random),
     ("damaged", damaged),
 ];
 
@@ -123,6 +125,35 @@ fn any_fragment(rng: &mut Rng, size: u16, tag: u16) -> frag::Repr {
     }
     let offset = if rng.one_in(2) { rng.byte() } else { rng.pick(&BYTES) };
     frag::Repr::Fragment { size, tag, offset }
+}
+
+/// Drawn bytes for the readers that look at one byte or at a length.
+fn dispatch_random(sink: &mut Sink, rng: &mut Rng, numbers: Numbers) {
+    for place in 0..numbers.count {
+        let reader = ["dispatch", "nhc.dispatch", "addr.from"][place % 3];
+        sink.read(reader, &rng.bytes::<12>()[..rng.below(13)]);
+    }
+}
+
+/// Drawn values for every writer and for `key`, at a drawn room.
+fn writes_random(sink: &mut Sink, rng: &mut Rng, numbers: Numbers) {
+    let chosen = values::addresses();
+    for _ in 0..numbers.count {
+        let room = rng.pick(&ROOMS);
+        let (size, tag) = (rng.word(), rng.word());
+        match rng.below(8) {
+            0 | 1 => sink.mac_write(&any_mac(rng), room),
+            2 => sink.frag_write(&any_fragment(rng, size, tag), room),
+            3 => sink.key(rng.link(), rng.link(), &any_fragment(rng, size, tag)),
+            4 => sink.ext_write(rng.pick(&[0, 1, 2, 3, 4, 5, 7]), any_next(rng), rng.byte(), room),
+            5 => sink.udp_write(&any_udp(rng), room),
+            _ => {
+                let (ll_src, ll_dst) = (rng.link(), rng.link());
+                let (src, dst) = (rng.ipv6(&chosen, ll_src), rng.ipv6(&chosen, ll_dst));
+                sink.iphc_write(&iphc_between(rng, src, ll_src, dst, ll_dst), room);
+            }
+        }
+    }
 }
 
 // ---- MAC
@@ -584,9 +615,13 @@ pub fn ext_written(rng: &mut Rng) -> Vec<u8> {
     bytes
 }
 
-pub fn udp_written(rng: &mut Rng) -> Vec<u8> {
+fn any_udp(rng: &mut Rng) -> UdpNhcRepr {
     let checksum = if rng.one_in(2) { None } else { Some(rng.word()) };
-    let repr = UdpNhcRepr { src_port: rng.port(), dst_port: rng.port(), checksum };
+    UdpNhcRepr { src_port: rng.port(), dst_port: rng.port(), checksum }
+}
+
+pub fn udp_written(rng: &mut Rng) -> Vec<u8> {
+    let repr = any_udp(rng);
     let mut bytes = vec![0; repr.buffer_len()];
     repr.emit(&mut bytes);
     bytes
