@@ -31,8 +31,9 @@ impl Numbers {
 
 type Kind = fn(&mut Sink, &mut Rng, Numbers);
 
-const KINDS: [(&str, Kind); 21] = [
+const KINDS: [(&str, Kind); 22] = [
     ("first-bytes", first_bytes),
+    ("long-inputs", long_inputs),
     ("addresses", addresses),
     ("mac-controls", mac_controls),
     ("mac-writes", mac_writes),
@@ -93,6 +94,36 @@ fn first_bytes(sink: &mut Sink, rng: &mut Rng, numbers: Numbers) {
             }
         }
     }
+}
+
+/// Every reader at every length up to 512, so that a length kept in a byte would show.
+fn long_inputs(sink: &mut Sink, rng: &mut Rng, numbers: Numbers) {
+    for len in numbers.part(513) {
+        long_input(sink, rng, len);
+    }
+}
+
+/// Inputs of this length that begin as good headers, and a list of contexts of this length.
+pub fn long_input(sink: &mut Sink, rng: &mut Rng, len: usize) {
+    let readers: [(&str, &[u8]); 8] = [
+        ("mac.parse", &[0x41, 0x88]),
+        ("addr.from", &[]),
+        ("dispatch", &[0x7a]),
+        ("frag.parse", &[0xc5]),
+        ("frag.parse", &[0xe5]),
+        ("nhc.dispatch", &[0xf3]),
+        ("ext.parse", &[0xe0]),
+        ("udp.parse", &[0xf0]),
+    ];
+    let mut bytes: [u8; 512] = rng.bytes();
+    for (reader, first) in readers {
+        bytes[..first.len()].copy_from_slice(first);
+        sink.read(reader, &bytes[..len]);
+    }
+    bytes[..2].copy_from_slice(&[0x60, 0x00]);
+    sink.iphc_read(&bytes[..len], Some(EXT), Some(SHORT_1234), &[]);
+    // SAC=1 SAM=11, DAC=1 DAM=10, contexts 15 and 14.
+    sink.iphc_read(&[0x7a, 0xf6, 0xfe, 0x3a, 0xab, 0xcd], Some(EXT), None, &bytes[..len]);
 }
 
 /// `addr.from` at every length, `addr.info` and `key` over chosen and drawn addresses.

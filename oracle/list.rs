@@ -18,7 +18,7 @@ use crate::wire::sixlowpan::{NextHeader, frag};
 
 type Section = fn(&mut Sink, &mut Rng);
 
-const SECTIONS: [(&str, Section); 13] = [
+const SECTIONS: [(&str, Section); 14] = [
     ("mac.parse: Data frames of every version, address mode and compression, cut at each end of a field and beside it", mac_layouts),
     ("mac.parse: every frame type and version; every security control; every flag", mac_types),
     ("mac.emit: every pair of address kinds; boundary numbers; rooms", mac_writes),
@@ -31,6 +31,7 @@ const SECTIONS: [(&str, Section); 13] = [
     ("iphc.parse: every form of the other fields, every cut, every context identifier", iphc_fields),
     ("iphc.emit: addresses on both sides of every case, against link-layer addresses; hop limits; rooms", iphc_writes),
     ("headers that the Rust wrote: whole, a byte or bit changed, cut, extended (drawn)", damaged),
+    ("long inputs to every reader, and long lists of contexts", long_inputs),
     ("lines that are no commands", no_commands),
 ];
 
@@ -331,6 +332,12 @@ fn damaged(sink: &mut Sink, rng: &mut Rng) {
     let chosen = values::addresses();
     for _ in 0..400 {
         damaged_one(sink, rng, &chosen);
+    }
+}
+
+fn long_inputs(sink: &mut Sink, rng: &mut Rng) {
+    for len in [111, 112, 119, 120, 126, 127, 128, 129, 255, 256, 258, 264, 384, 512] {
+        generate::long_input(sink, rng, len);
     }
 }
 
