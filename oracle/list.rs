@@ -252,6 +252,7 @@ fn iphc_modes(sink: &mut Sink, rng: &mut Rng) {
         sink.iphc_read(&bytes[..full], ext, short, &context);
         sink.iphc_read(&bytes[..full], short, ext, &[]);
         sink.iphc_read(&bytes[..full - 1], ext, short, &context);
+        sink.iphc_read(&bytes[..full - 1], ext, short, &[]);
         sink.iphc_read(&bytes[..full + 1], None, ext, &context);
         sink.iphc_read(&bytes[..full], short, Some(Address::Absent), &context[..7]);
     }
@@ -330,7 +331,7 @@ fn iphc_writes(sink: &mut Sink, rng: &mut Rng) {
 
 fn damaged(sink: &mut Sink, rng: &mut Rng) {
     let chosen = values::addresses();
-    for _ in 0..400 {
+    for _ in 0..300 {
         damaged_one(sink, rng, &chosen);
     }
 }
