@@ -1,0 +1,119 @@
+//! The comparison of two programs' answers to the same lines: `compare LINES OURS THEIRS`.
+
+use std::fs::File;
+use std::io::{self, BufRead, BufReader};
+
+use crate::oracle::answer::{listed, mac_01};
+use crate::oracle::rules::{self, Listed};
+use crate::oracle::text::Fields;
+
+/// How many differences are printed.
+const SHOWN: usize = 10;
+
+/// A file of lines.
+struct Lines {
+    name: String,
+    file: BufReader<File>,
+    line: Vec<u8>,
+}
+
+impl Lines {
+    fn open(name: &str) -> io::Result<Self> {
+        let file = File::open(name).map_err(|e| io::Error::other(format!("{name}: {e}")))?;
+        if file.metadata()?.len() == 0 {
+            return Err(io::Error::other(format!("{name} is empty")));
+        }
+        Ok(Lines { name: name.to_string(), file: BufReader::with_capacity(1 << 16, file), line: Vec::new() })
+    }
+
+    /// Goes on to the next line; false where there is none.
+    fn next(&mut self) -> io::Result<bool> {
+        self.line.clear();
+        let read = self.file.read_until(b'\n', &mut self.line)?;
+        if read > 0 && self.line.pop() != Some(b'\n') {
+            return Err(io::Error::other(format!("{}: the last line is cut", self.name)));
+        }
+        Ok(read > 0)
+    }
+
+    fn text(&self) -> String {
+        String::from_utf8_lossy(&self.line).into_owned()
+    }
+}
+
+/// What was counted.
+#[derive(Default)]
+struct Counts {
+    lines: usize,
+    agreed: usize,
+    both_absent: usize,
+    source_only: usize,
+    differences: usize,
+}
+
+/// The answer that document 01 wants where it decides against the Rust.
+pub fn wanted(line: &[u8], frame: &mut Vec<u8>) -> Option<(Listed, Vec<u8>)> {
+    if !line.starts_with(b"mac.parse ") {
+        return None;
+    }
+    let mut fields = Fields::of(line);
+    fields.next()?;
+    fields.bytes_into(frame)?;
+    fields.end()?;
+    let case = listed(frame)?;
+    let mut answer = Vec::new();
+    mac_01(rules::mac(frame), &mut answer);
+    Some((case, answer))
+}
+
+/// An answer that says that the Rust and rules.rs disagree.
+fn is_marked(answer: &[u8]) -> bool {
+    answer == b"panic" || answer.ends_with(b"?")
+}
+
+fn compare_line(lines: &Lines, ours: &Lines, theirs: &Lines, frame: &mut Vec<u8>, counts: &mut Counts) {
+    counts.lines += 1;
+    let want = wanted(&lines.line, frame);
+    let well = match &want {
+        Some((_, answer)) => ours.line == *answer,
+        None => ours.line == theirs.line && (lines.line.starts_with(b"#") || !is_marked(&theirs.line)),
+    };
+    match want {
+        _ if well && ours.line == theirs.line => counts.agreed += 1,
+        Some((Listed::BothAbsent, _)) if well => counts.both_absent += 1,
+        Some((Listed::SourceOnly, _)) if well => counts.source_only += 1,
+        _ => {
+            counts.differences += 1;
+            if counts.differences <= SHOWN {
+                eprintln!("{}\n  ours   {}\n  theirs {}", lines.text(), ours.text(), theirs.text());
+                if let Some((_, answer)) = want {
+                    eprintln!("  wanted {} (document 01 decides here)", String::from_utf8_lossy(&answer));
+                }
+            }
+        }
+    }
+}
+
+/// Prints the number of lines, of equal answers and of each listed difference, or fails.
+pub fn run(lines: &str, ours: &str, theirs: &str) -> io::Result<()> {
+    let (mut lines, mut ours, mut theirs) = (Lines::open(lines)?, Lines::open(ours)?, Lines::open(theirs)?);
+    let (mut counts, mut frame) = (Counts::default(), Vec::new());
+    loop {
+        let more = lines.next()?;
+        for answers in [&mut ours, &mut theirs] {
+            if answers.next()? != more {
+                let what = if more { "missing" } else { "too many" };
+                return Err(io::Error::other(format!("{}: answers {what} after line {}", answers.name, counts.lines)));
+            }
+        }
+        if !more {
+            break;
+        }
+        compare_line(&lines, &ours, &theirs, &mut frame, &mut counts);
+    }
+    if counts.differences > 0 {
+        return Err(io::Error::other(format!("{} of {} answers differ", counts.differences, counts.lines)));
+    }
+    println!("{} {} {} {}", counts.lines, counts.agreed, counts.both_absent, counts.source_only);
+    Ok(())
+}
