@@ -6,7 +6,12 @@ pub mod NhcSteps
 pub mod NhcPuts
 pub mod NhcTrips
 pub mod NhcSpans
-pub mod NhcUnique
+pub mod Unique
+pub mod HeaderSteps
+pub mod IphcExamples
 pub mod NhcExamples
 pub mod FragSteps
 pub mod FragPuts
+pub mod FragTrips
+pub mod FragSpans
+pub mod IphcSpans

@@ -9,3 +9,4 @@ pub mod NhcExt
 pub mod NhcUdp
 pub mod Frag
 pub mod Key
+pub mod IphcWidths
