@@ -1,7 +1,7 @@
 -- Addresses (IEEE 802.15.4, 7.2.2.9: absent, short of 16 bits, extended of 64 bits) and what is made of them.
 use Prim.Native.Nat.{ℕ, _+_, _-_, _/_, _%_, _^_}
 use mathlib.Core.List.{List, []}
-use mathlib.Core.Bool.{Bool, true, false}
+use mathlib.Core.Bool.{Bool, false}
 use mathlib.Core.Option.{Option, none, some}
 use lib.ListN.{length}
 use lib.Dec.{eqb}

@@ -1,5 +1,5 @@
 -- Which headers read back as they were written: a test that computes. proofs/RoundTrips.antt shows that it is exact.
-use Prim.Native.Nat.{ℕ, _+_}
+use Prim.Native.Nat.{_+_}
 use mathlib.Core.Bool.{Bool, true, false, not, _&&_}
 use lib.Dec.{eqb, ltb}
 use Rattle.octets.specs.Read.{choose}
