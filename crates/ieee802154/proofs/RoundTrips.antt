@@ -9,10 +9,12 @@ use mathlib.Core.Path.{_≡_, refl, sym, ap, subst, _∙_}
 use lib.ListN.{length, drop, length-append, length-drop}
 use lib.Dec.{eqb, ltb}
 use borrow.Author.Tests.{ltb-true, lt-ltb, le-ltb, eqb-true, eq-eqb, ne-eqb, not-true, le-leb}
-use Rattle.octets.specs.Read.{Reader, got, choose, branch, give, refuse, _>>=_, byte, le16, le64}
-use Rattle.octets.specs.Write.{over, byteBytes, le16Bytes, le64Bytes}
+use Rattle.octets.specs.Read.{is, refused, Reader, got, choose, branch, give, refuse, _>>=_, byte, le16, le64}
+use Rattle.octets.specs.Write.{over, byteBytes, be16Bytes, be32Bytes, be64Bytes, le16Bytes, le64Bytes}
 use Rattle.octets.specs.declared.field.ByteField.{ByteField}
-use Rattle.octets.proofs.RoundTrip.{Reads, reads-then, reads-map, reads-give, reads-byte, reads-le16, reads-le64}
+use Rattle.octets.proofs.RoundTrip.{Reads, reads-then, reads-map, reads-give, reads-byte, reads-be16, reads-be64, reads-le16, reads-le64}
+use Rattle.ieee802154.specs.Address.{isPresent, fromBytes, addressBytes}
+use Rattle.ieee802154.specs.declared.addr.Address.{Address}
 use Rattle.ieee802154.specs.Control.{bit, bitOf, controlOf, wordOf, supported, hasSequence, hasAddressing, pans, carried01, carried2, carried}
 use Rattle.ieee802154.specs.Addressing.{panField, addressField, side, sides, addressing, panOr, modeOf, fieldLength, fieldBytes}
 use Rattle.ieee802154.specs.Security.{auxiliary}
@@ -27,6 +29,14 @@ use Rattle.ieee802154.specs.declared.addressing.Side.{Side}
 use Rattle.ieee802154.specs.declared.addressing.Addressing.{Addressing}
 use Rattle.ieee802154.specs.declared.header.Repr.{Repr}
 use Rattle.ieee802154.proofs.WriteSteps.{length-bytes}
+
+-- ---- an address as bytes
+-- a present one comes back; of an absent one there are no bytes, which are refused, 4
+pub address-back : (a : Address) → fromBytes (addressBytes a) ≡ choose (isPresent a) (is a) (refused 4)
+unfolding fromBytes be64Bytes be32Bytes be16Bytes
+address-back Absent = refl
+address-back (Short x) = rw (reads-be16 x [] [] 0 refl)
+address-back (Extended x) = rw (reads-be64 x [] [] 0 refl)
 
 -- ---- tests
 pub both : (t u : Bool) → (t && u) ≡ true → (t ≡ true) × (u ≡ true)

@@ -1,7 +1,7 @@
 -- Addresses (IEEE 802.15.4, 7.2.2.9: absent, short of 16 bits, extended of 64 bits) and what is made of them.
 use Prim.Native.Nat.{ℕ, _+_, _-_, _/_, _%_, _^_}
 use mathlib.Core.List.{List, []}
-use mathlib.Core.Bool.{Bool, false}
+use mathlib.Core.Bool.{Bool, true, false}
 use mathlib.Core.Option.{Option, none, some}
 use lib.ListN.{length}
 use lib.Dec.{eqb}
@@ -34,6 +34,11 @@ abbrev pub isBroadcast : Address → Bool
 isBroadcast Absent = false
 isBroadcast (Short a) = eqb a 0xffff
 isBroadcast (Extended a) = false
+
+abbrev pub isPresent : Address → Bool
+isPresent Absent = false
+isPresent (Short a) = true
+isPresent (Extended a) = true
 
 -- ---- an address as bytes, the first one high
 -- two bytes: a short address; eight: an extended one; any other count: 4
