@@ -1,4 +1,5 @@
--- Which headers read back as they were written: a test that computes. proofs/RoundTrips.antt shows that it is exact.
+-- Which headers read back as they were written: a test that computes. It is exact: proofs/RoundTrips.antt shows
+-- that it suffices, proofs/Exact.antt that it is needed.
 use Prim.Native.Nat.{_+_}
 use mathlib.Core.Bool.{Bool, true, false, not, _&&_}
 use lib.Dec.{eqb, ltb}
