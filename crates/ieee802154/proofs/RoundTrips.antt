@@ -12,6 +12,7 @@ use borrow.Author.Tests.{ltb-true, lt-ltb, le-ltb, eqb-true, eq-eqb, ne-eqb, not
 use Rattle.octets.specs.Read.{is, refused, Reader, got, choose, branch, give, refuse, _>>=_, byte, le16, le64}
 use Rattle.octets.specs.Write.{over, byteBytes, be16Bytes, be32Bytes, be64Bytes, le16Bytes, le64Bytes}
 use Rattle.octets.specs.declared.field.ByteField.{ByteField}
+use Rattle.octets.proofs.Steps.{and-true}
 use Rattle.octets.proofs.RoundTrip.{Reads, reads-then, reads-map, reads-give, reads-byte, reads-be16, reads-be64, reads-le16, reads-le64}
 use Rattle.ieee802154.specs.Address.{isPresent, fromBytes, addressBytes}
 use Rattle.ieee802154.specs.declared.addr.Address.{Address}
@@ -39,10 +40,6 @@ address-back (Short x) = rw (reads-be16 x [] [] 0 refl)
 address-back (Extended x) = rw (reads-be64 x [] [] 0 refl)
 
 -- ---- tests
-pub both : (t u : Bool) → (t && u) ≡ true → (t ≡ true) × (u ≡ true)
-both true u e = (refl, e)
-both false u e = (e, cc)
-
 pub same-is : (t u : Bool) → same t u ≡ true → t ≡ u
 same-is true u e = sym e
 same-is false u e = sym (not-true u e)
@@ -218,9 +215,9 @@ zero-of false n e f = eqb-true n 0 e
 pans-of : (c : Bool) (p : Carried) (d s : PanField) → pansStand c p d s ≡ true → PansStand c p d s
 unfolding pansStand
 pans-of c p d s e =
-    let x = both (same (hasPan d) (p .dst)) _ e in
-    let y = both (same (hasPan s) (p .src)) _ (x .1) in
-    let z = both (eqb (bitOf (hasPan d) + bitOf (hasPan s)) (choose c 1 2)) (choose (hasPan d) true (eqb (panOr s) 0)) (y .1) in
+    let x = and-true (same (hasPan d) (p .dst)) _ e in
+    let y = and-true (same (hasPan s) (p .src)) _ (x .1) in
+    let z = and-true (eqb (bitOf (hasPan d) + bitOf (hasPan s)) (choose c 1 2)) (choose (hasPan d) true (eqb (panOr s) 0)) (y .1) in
     record {
       are-carried = pans-eta p (hasPan d) (hasPan s) (same-is (hasPan d) (p .dst) (x .0)) (same-is (hasPan s) (p .src) (y .0));
       are-counted = eqb-true _ _ (z .0);
@@ -230,13 +227,13 @@ pans-of c p d s e =
 domain : (h : Repr) → roundTrips h ≡ true → Domain h
 unfolding roundTrips
 domain h e =
-    let a = both _ _ e in
-    let b = both _ _ (a .1) in
-    let c = both _ _ (b .1) in
-    let d = both _ _ (c .1) in
-    let f = both _ _ (d .1) in
-    let g = both _ _ (f .1) in
-    let i = both _ _ (g .1) in
+    let a = and-true _ _ e in
+    let b = and-true _ _ (a .1) in
+    let c = and-true _ _ (b .1) in
+    let d = and-true _ _ (c .1) in
+    let f = and-true _ _ (d .1) in
+    let g = and-true _ _ (f .1) in
+    let i = and-true _ _ (g .1) in
     record {
       unsecured = not-true (h .«security_enabled») (a .0);
       version = ltb-true (h .«frame_version» .0) 4 (b .0);
