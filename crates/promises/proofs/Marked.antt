@@ -15,18 +15,18 @@ use Rattle.ieee802154.specs.declared.addr.AddressField.{AddressField}
 use Rattle.ieee802154.specs.declared.addr.PanField.{PanField}
 use Rattle.ieee802154.specs.declared.header.Repr as MacRepr
 use Rattle.ieee802154.proofs.Examples.{k11}
-use Rattle.sixlowpan.specs.Iphc.{iphc}
+use Rattle.iphc.specs.Iphc.{iphc}
 use Rattle.sixlowpan.specs.Frag
 use Rattle.sixlowpan.specs.NhcUdp.{udpBytes}
 use Rattle.sixlowpan.specs.NhcExt.{ext, extBytes}
 use Rattle.sixlowpan.specs.declared.protocol.NextHeader.the-variants.{Uncompressed}
 use Rattle.sixlowpan.specs.declared.frag.Repr.the-variants.{FirstFragment, Fragment}
-use Rattle.sixlowpan.specs.declared.iphc.Repr as IphcRepr
+use Rattle.iphc.specs.declared.header.Repr as IphcRepr
 use Rattle.sixlowpan.specs.declared.nhc.UdpNhcRepr.{UdpNhcRepr}
 use Rattle.sixlowpan.specs.declared.nhc.ExtHeaderId.the-variants.{Reserved}
 use Rattle.sixlowpan.specs.declared.nhc.ExtHeaderRepr.{ExtHeaderRepr}
-use Rattle.sixlowpan.proofs.IphcExamples.{k1-k5, k9}
-use Rattle.sixlowpan.proofs.NhcExamples.{k6-k7-k8-k10}
+use Rattle.iphc.proofs.Examples.{k1-k5}
+use Rattle.sixlowpan.proofs.Examples.{k6-k7-k8-k10, k9}
 
 -- "With source ext 0011223344556677, destination short abcd"; no contexts
 abbrev source : AddressField

@@ -2,22 +2,16 @@
 use mathlib.Core.Path.{_≡_, refl, ap}
 use Rattle.octets.specs.Read.{Placed}
 use Rattle.octets.proofs.Unique.{Injective, back, one, refusal-back}
-use Prim.Native.Nat.{ℕ}
 use Rattle.sixlowpan.specs.Dispatch.{ofDispatch}
-use Rattle.sixlowpan.specs.Context.{ofPrefix}
 use Rattle.sixlowpan.specs.Frag
 use Rattle.sixlowpan.specs.Key.{ofKey}
-use Rattle.sixlowpan.specs.IphcAnswers
 use Rattle.sixlowpan.specs.Nhc.{ofNhc}
 use Rattle.sixlowpan.specs.NhcExt.{ofExt}
 use Rattle.sixlowpan.specs.NhcUdp.{ofUdp}
 use Rattle.sixlowpan.specs.declared.dispatch.DispatchAnswer.{DispatchAnswer}
-use Rattle.sixlowpan.specs.declared.context.PrefixAnswer.{PrefixAnswer}
 use Rattle.sixlowpan.specs.declared.frag.Parsed as FragParsed
 use Rattle.sixlowpan.specs.declared.frag.Repr as FragRepr
 use Rattle.sixlowpan.specs.declared.frag.KeyAnswer.{KeyAnswer}
-use Rattle.sixlowpan.specs.declared.iphc.Parsed as IphcParsed
-use Rattle.sixlowpan.specs.declared.iphc.Repr as IphcRepr
 use Rattle.sixlowpan.specs.declared.nhc.NhcAnswer.{NhcAnswer}
 use Rattle.sixlowpan.specs.declared.nhc.ExtParsed.{ExtParsed}
 use Rattle.sixlowpan.specs.declared.nhc.ExtHeaderRepr.{ExtHeaderRepr}
@@ -52,13 +46,6 @@ dispatch-one = one ofDispatch DispatchAnswer.Is DispatchAnswer.Refused inv
     inv (DispatchAnswer.Is p) = refl
     inv (DispatchAnswer.Refused e) = ap DispatchAnswer.Refused (refusal-back e)
 
-pub prefix-one : Injective ofPrefix
-prefix-one = one ofPrefix PrefixAnswer.Is PrefixAnswer.Refused inv
-  where
-    inv : (y : PrefixAnswer) → back PrefixAnswer.Is PrefixAnswer.Refused (ofPrefix y) ≡ y
-    inv (PrefixAnswer.Is p) = refl
-    inv (PrefixAnswer.Refused e) = ap PrefixAnswer.Refused (refusal-back e)
-
 pub key-one : Injective ofKey
 key-one = one ofKey KeyAnswer.Is KeyAnswer.Refused inv
   where
@@ -72,10 +59,3 @@ frag-one = one Frag.ofParsed (λ (p : Placed FragRepr.Repr). FragParsed.Parsed.H
     inv : (y : FragParsed.Parsed) → back (λ (p : Placed FragRepr.Repr). FragParsed.Parsed.Header (p .value) (p .next)) FragParsed.Parsed.Refused (Frag.ofParsed y) ≡ y
     inv (FragParsed.Parsed.Header h n) = refl
     inv (FragParsed.Parsed.Refused e) = ap FragParsed.Parsed.Refused (refusal-back e)
-
-pub iphc-one : Injective IphcAnswers.ofParsed
-iphc-one = one IphcAnswers.ofParsed (λ (p : Placed IphcRepr.Repr). IphcParsed.Parsed.Header (p .value) (p .next)) IphcParsed.Parsed.Refused inv
-  where
-    inv : (y : IphcParsed.Parsed) → back (λ (p : Placed IphcRepr.Repr). IphcParsed.Parsed.Header (p .value) (p .next)) IphcParsed.Parsed.Refused (IphcAnswers.ofParsed y) ≡ y
-    inv (IphcParsed.Parsed.Header h n) = refl
-    inv (IphcParsed.Parsed.Refused e) = ap IphcParsed.Parsed.Refused (refusal-back e)

@@ -1,12 +1,7 @@
 pub mod Dispatch
-pub mod Context
 pub mod Next
-pub mod IphcAnswers
-pub mod Iphc
-pub mod IphcEmit
 pub mod Nhc
 pub mod NhcExt
 pub mod NhcUdp
 pub mod Frag
 pub mod Key
-pub mod IphcWidths
