@@ -1,4 +1,4 @@
--- Where a line ends, and an unfinished line moved to the front.
+-- Where a byte stands first, and an unfinished line moved to the front.
 use Prim.Native.Nat.{ℕ, zero, suc, _+_, _≤_, _<_}
 use native.Mathlib.Nat.{add-comm}
 use native.Mathlib.Numerals.{add-one}
@@ -11,23 +11,23 @@ use borrow.Author.Tests.{eq-eqb, ne-eqb}
 use Rattle.octets.specs.Write.{put}
 use Rattle.bytes.specs.Bytes.{indexOf, indexAfter}
 
-pub found : (s : List ℕ) (i : ℕ) → i < length s → getD s i 0 ≡ 10 → i + indexOf 10 (drop i s) ≡ i
+pub found : (b : ℕ) (s : List ℕ) (i : ℕ) → i < length s → getD s i 0 ≡ b → i + indexOf b (drop i s) ≡ i
 unfolding indexOf indexAfter
-found s i h e =
-    let z : indexOf 10 (drop i s) ≡ 0 = rw (drop-cons s i 0 h, eq-eqb (getD s i 0) 10 e) refl in
+found b s i h e =
+    let z : indexOf b (drop i s) ≡ 0 = rw (drop-cons s i 0 h, eq-eqb (getD s i 0) b e) refl in
     omega arith
 
-pub passed : (s : List ℕ) (i : ℕ) → i < length s → (getD s i 0 ≡ 10 → ⊥) → i + indexOf 10 (drop i s) ≡ i + 1 + indexOf 10 (drop (i + 1) s)
+pub passed : (b : ℕ) (s : List ℕ) (i : ℕ) → i < length s → (getD s i 0 ≡ b → ⊥) → i + indexOf b (drop i s) ≡ i + 1 + indexOf b (drop (i + 1) s)
 unfolding indexOf indexAfter
-passed s i h e =
-    let z : indexOf 10 (drop i s) ≡ suc (indexOf 10 (drop (suc i) s)) = rw (drop-cons s i 0 h, ne-eqb (getD s i 0) 10 e) refl in
-    let d : indexOf 10 (drop (suc i) s) ≡ indexOf 10 (drop (i + 1) s) = ap (λ k. indexOf 10 (drop k s)) (sym (add-one i)) in
+passed b s i h e =
+    let z : indexOf b (drop i s) ≡ suc (indexOf b (drop (suc i) s)) = rw (drop-cons s i 0 h, ne-eqb (getD s i 0) b e) refl in
+    let d : indexOf b (drop (suc i) s) ≡ indexOf b (drop (i + 1) s) = ap (λ k. indexOf b (drop k s)) (sym (add-one i)) in
     omega arith
 
-pub none-left : (s : List ℕ) (i : ℕ) → length s ≤ i → i + indexOf 10 (drop i s) ≡ i
+pub none-left : (b : ℕ) (s : List ℕ) (i : ℕ) → length s ≤ i → i + indexOf b (drop i s) ≡ i
 unfolding indexOf
-none-left s i h =
-    let z : indexOf 10 (drop i s) ≡ 0 = ap (indexOf 10) (drop-of-length-le s h) in
+none-left b s i h =
+    let z : indexOf b (drop i s) ≡ 0 = ap (indexOf b) (drop-of-length-le s h) in
     omega arith
 
 -- ---- a move to the front: byte i comes from i + from, which is as it was

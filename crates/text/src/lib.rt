@@ -1,6 +1,6 @@
 // Text in bytes: lines of input, and numbers and words put into lent room.
 //
-// - `line`: where a line ends, and the move of an unfinished one to the front of the room.
+// - `line`: the end of a line or of a field, and the move of an unfinished line to the front of the room.
 // - `print`: puts a text at a place of the room and answers the place after it. A text that does not fit is not put at all, and
 //   the place stays: nothing is ever cut in the middle.
 //

@@ -5,13 +5,13 @@ ghost use lib.ListN.{drop};
 ghost use Rattle.octets.specs.Write.{put};
 ghost use Rattle.bytes.specs.Bytes.{indexOf};
 
-// Where the line that holds a place ends: the first line feed from there on, or the end of the bytes.
-pub fn end(s: &[u8], from: usize) -> usize
-    ensures { λ r. ⌜ r ≡ from + indexOf 10 (drop from (now (s .entry))) ⌝ }
+// The first place from a given one on that holds a byte, or the end of the bytes.
+pub fn find(s: &[u8], from: usize, b: u8) -> usize
+    ensures { λ r. ⌜ r ≡ from + indexOf b (drop from (now (s .entry))) ⌝ }
 {
     let mut i = from;
     while i < s.len() {
-        if s[i] == b'\n' {
+        if s[i] == b {
             return i;
         }
         i += 1;

@@ -5,14 +5,14 @@ use lib.ListN.{length, drop}
 use Rattle.bytes.specs.Bytes.{indexOf}
 use Rattle.text.proofs.Lines.{found, passed, none-left}
 use borrow.Author.Needs.{needs}
-use Rattle.text.proofs.line.end.Statement.{statement}
-use Rattle.text.proofs.line.end.Tie as tie
+use Rattle.text.proofs.line.find.Statement.{statement}
+use Rattle.text.proofs.line.find.Tie as tie
 
 abbrev Inv-loop : tie.InvT-loop
-Inv-loop s from i₀ i = i + indexOf 10 (drop i s) ≡ from + indexOf 10 (drop from s)
+Inv-loop s from b i₀ i = i + indexOf b (drop i s) ≡ from + indexOf b (drop from s)
 
 abbrev μ-loop : tie.MeasureT-loop
-μ-loop s from i₀ i = length s - i
+μ-loop s from b i₀ i = length s - i
 
 loop-holds : tie.Need-loop-holds Inv-loop μ-loop
 loop-holds c = refl
@@ -24,7 +24,7 @@ returns : tie.Need-returns Inv-loop μ-loop
 returns c =
     let a = c .before .before .before .before .args in
     let l = c .before .before .before .loop in
-    sym (found (a .s .now) (l .i) (omega arith) (c .if1 .taken)) ∙ l .inv
+    sym (found (a .b) (a .s .now) (l .i) (omega arith) (c .if1 .taken)) ∙ l .inv
 
 add-i : tie.Need-add-i Inv-loop μ-loop
 add-i c = search needs
@@ -36,16 +36,16 @@ loop-again : tie.Need-loop-again Inv-loop μ-loop
 loop-again c =
     let a = c .before .before .before .before .args in
     let l = c .before .before .before .loop in
-    sym (passed (a .s .now) (l .i) (omega arith) (c .if1 .left)) ∙ l .inv
+    sym (passed (a .b) (a .s .now) (l .i) (omega arith) (c .if1 .left)) ∙ l .inv
 
 returns-2 : tie.Need-returns-2 Inv-loop μ-loop
 returns-2 c =
     let a = c .before .before .args in
     let l = c .before .loop in
-    sym (none-left (a .s .now) (l .i) (omega arith)) ∙ l .inv
+    sym (none-left (a .b) (a .s .now) (l .i) (omega arith)) ∙ l .inv
 
-pub end-spec : {M : Type 1} → statement M
-end-spec =
+pub find-spec : {M : Type 1} → statement M
+find-spec =
     tie.close
     (tie.spec
     Inv-loop
