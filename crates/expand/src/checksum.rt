@@ -1,6 +1,6 @@
 // The UDP checksum of an IPv6 datagram (RFC 768, RFC 8200 8.1, RFC 1071).
 ghost use mathlib.Core.Path.{_≡_};
-ghost use Prim.Native.Nat.{_≤_, _<_};
+ghost use Prim.Native.Nat.{_≤_, _<_, _*_};
 ghost use lib.ListN.{length};
 ghost use Rattle.expand.specs.Sum.{sumWords, udpChecksum, summedIn};
 use octets::write::put_be16;
@@ -11,10 +11,10 @@ fn wide(x: u8) -> u64
     x as u64
 }
 
-// The plain sum of the 16-bit words.
+// The plain sum of at most 32,767 words of 16 bits.
 fn sum_words(s: &[u8]) -> u64
-    requires { ⌜ length (now s) ≤ 65535 ⌝ }
-    ensures { λ r. ⌜ (r ≡ sumWords (now (s .entry))) × (r < 2147483648) ⌝ }
+    requires { ⌜ length (now s) ≤ 65534 ⌝ }
+    ensures { λ r. ⌜ (r ≡ sumWords (now (s .entry))) × (r ≤ 65534 * 32768) ⌝ }
 {
     let mut x: u64 = 0;
     let mut i: usize = 0;

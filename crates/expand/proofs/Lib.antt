@@ -1,0 +1,5 @@
+pub mod Steps
+pub mod CopyLaws
+pub mod SumLaws
+pub mod FullLaws
+pub mod ExpandLaws
