@@ -60,7 +60,7 @@ computes-size WordField.None (UdpField.Some h) e = refl
 computes-size (WordField.Some n) u e = cc
 
 -- bytes that fit
-over-is : (bs room : List ℕ) (n : ℕ) → length bs ≡ n → n ≤ length room → over (length bs) bs room ≡ bs ++ drop n room
+pub over-is : (bs room : List ℕ) (n : ℕ) → length bs ≡ n → n ≤ length room → over (length bs) bs room ≡ bs ++ drop n room
 over-is bs room n e h = rw (e, le-leb n (length room) h) refl
 
 -- ---- what is decided, with the lengths that calls gave

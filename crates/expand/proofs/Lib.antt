@@ -3,3 +3,7 @@ pub mod CopyLaws
 pub mod SumLaws
 pub mod FullLaws
 pub mod ExpandLaws
+pub mod ChecksumLaws
+pub mod Datagrams
+pub mod Unique
+pub mod Examples
