@@ -107,7 +107,7 @@ def unicast_forms(address, link, contexts, source):
     forms = [(0, 0, 0, address)]
     if source and address == bytes(16):
         forms.append((1, 0, 0, b""))
-    prefixes = [(0, 0, ip("fe80::")[:8])] + [(1, i, c) for i, c in enumerate(contexts)]
+    prefixes = [(0, 0, ip("fe80::")[:8])] + [(1, i, c) for i, c in enumerate(contexts[:16])]
     for ac, number, prefix in prefixes:
         if address[:8] != prefix:
             continue
