@@ -63,7 +63,7 @@ def world_of(rng, gateways):
     strangers = [one for one in (f.short(0x1234), f.extended(0x99), f.short(5), f.extended(1)) if one not in known]
     destinations = [f.BROADCAST, f.short(0xabcd), f.extended(0x0011223344556677), known[0]]
     contexts = [prefix(rng) for _ in range(rng.choice((0, 0, 1, 1, 2, 3, 16, 17)))]
-    return scenes.World(known, strangers, destinations, contexts)
+    return scenes.World(known, strangers, destinations, contexts, TOP)
 
 
 def lent_contexts(rng, world):
@@ -100,7 +100,7 @@ def make(seed, number):
     if len(gateways) > 4 or len(set(gateways)) < len(gateways) or b"" in gateways:
         return lines
     world = world_of(rng, gateways)
-    for time, frame in scenes.run(rng, world, TOP, 60):
+    for time, frame in scenes.run(rng, world, 60):
         mem, out = 16384, rng.choice((2047, 2048, 2050))
         kind = rng.randrange(100)
         if kind == 0:
@@ -115,9 +115,10 @@ def make(seed, number):
             frame = frame + bytes(127 - len(frame))
         elif kind == 5:
             lines.append(rng.choice(MALFORMED) if rng.random() < 0.5 else "# a remark")
+        early = max(0, time - 1) if kind in (0, 1) and rng.random() < 0.3 else time
         if kind in (0, 1) and rng.random() < 0.3:
-            time = max(0, time - 1)
-        lines.append(f"call {time} {hexed(frame)} {hexed(lent_contexts(rng, world))} {mem} {out}")
+            early = min(TOP, time + rng.choice((1, 1000, 60000)))
+        lines.append(f"call {early} {hexed(frame)} {hexed(lent_contexts(rng, world))} {mem} {out}")
         if kind in (0, 1) and rng.random() < 0.5:
             lines.append(f"call {time} {hexed(frame)} {hexed(b''.join(world.contexts))} 16384 2047")
     return lines

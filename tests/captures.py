@@ -110,7 +110,7 @@ def damage(rng, blocks):
     at = rng.randrange(len(blocks))
     block = blocks[at]
     count = len(block.frames)
-    kind = rng.randrange(20)
+    kind = rng.choice((*range(20), 3, 3, 3, 4, 8))
     value = rng.choice((1, 0x80, 0xff, rng.randrange(1, 256)))
     if kind == 0:
         blocks[at] = block.copy(number=rng.choice((at + 1, max(0, at - 1), at << 8, at << 24 & TOP, 0xffffffff, at ^ 0x100,
@@ -175,14 +175,33 @@ def damage(rng, blocks):
 WORLD = scenes.heard_world()
 
 
+def special(rng):
+    """Captures of next to nothing: no bytes, zeros (a good block 0 of no frames is all zeros, its frame check too), and a
+    block cut off just before a byte that is zero."""
+    kind = rng.randrange(6)
+    if kind == 0:
+        return []
+    if kind == 1:
+        return [Block([]), Block([])][:rng.randrange(1, 3)]
+    if kind == 2:
+        return [Block([], length=rng.choice((1, 510, 511, rng.randrange(1, 512))))]
+    if kind == 3:
+        return [Block([], length=BLOCK + rng.choice((1, 511, 512, rng.randrange(1, 512))))]
+    for time in range(1000):
+        block = Block([(time, scenes.noise_frame(rng, WORLD))])
+        if block.encode(0)[511] == 0:
+            break
+    return [block.copy(length=511)]
+
+
 def make(seed, number):
     """The capture of this number."""
     rng = random.Random(f"capture {seed} {number}")
-    if rng.random() < 0.003:
-        return rng.choice(([], [Block([])], [Block([]), Block([])]))
-    events = scenes.run(rng, WORLD, TOP, 36)
+    if rng.random() < 0.005:
+        return special(rng)
+    events = scenes.run(rng, WORLD, 36)
     blocks = blocks_of(rng, events)
-    if rng.random() < 0.22:
+    if rng.random() < 0.25:
         blocks = damage(rng, blocks)
         if rng.random() < 0.1:
             blocks = damage(rng, blocks)

@@ -13,9 +13,9 @@ EDGES = (LIFETIME - 1, LIFETIME, LIFETIME + 1)
 class World:
     """Who is there: the gateways that the table knows, others it does not know, destinations, contexts."""
 
-    def __init__(self, gateways, strangers, destinations, contexts=()):
+    def __init__(self, gateways, strangers, destinations, contexts=(), top=2 ** 32 - 1):
         self.gateways, self.strangers, self.destinations = gateways, strangers, destinations
-        self.contexts = list(contexts)
+        self.contexts, self.top = list(contexts), top
 
 
 def heard_world():
@@ -232,8 +232,8 @@ def same_tag(rng, world, start):
         if chance(rng, 0.3):
             dst = rng.choice(world.destinations)
         delta = rng.choice((0, 0, 0, 1, -8, 8))
-        stream = Stream(rng, world, src, dst, size + delta, tag + (0 if chance(rng, 0.8) else 1) & 0xffff, step,
-                        first_end=first_end, choose=f.shortest)
+        other_tag = tag if chance(rng, 0.75) else tag ^ rng.choice((1, 0x100, 0x8000))
+        stream = Stream(rng, world, src, dst, size + delta, other_tag, step, first_end=first_end, choose=f.shortest)
         frames = stream.frames()
         if chance(rng, 0.3):
             rng.shuffle(frames)
@@ -316,6 +316,10 @@ def sizes(rng, world, start):
         units = rng.choice((0, 4, 5, 6, 254, 255))
         tail = f.fragn(size, tag, units) + rng.randbytes(rng.choice((0, 1, 7, 8, 9, 16)))
         pair = [head.payload, tail]
+        if size < 40:
+            # A part that would be a good one if the size were.
+            unit = rng.choice((1, 2, 3, 4))
+            pair.append(f.fragn(size, tag, unit) + rng.randbytes(max(0, min(rng.choice((8, 39)), size - 8 * unit))))
         if size in (41, 49) or chance(rng, 0.3):
             at = 5 if size < 48 else 6
             pair.append(f.fragn(size, tag, at) + rng.randbytes(max(0, min(80, (size & 0x7ff) - 8 * at))))
@@ -356,6 +360,8 @@ def ageing(rng, world, start):
         split = rng.randrange(1, len(frames) + 1)
         events = [(begin, frame) for frame in frames[:split]]
         late = begin + rng.choice(EDGES)
+        if world.top > 2 ** 33 and chance(rng, 0.2):
+            late = begin + 2 ** 32 * rng.choice((1, 2, 2 ** 16)) + rng.choice((0, 5, *EDGES))
         rest = frames[split:]
         if chance(rng, 0.4):
             rest = rest + frames[:split]
@@ -378,6 +384,9 @@ def clock(rng, world, start):
     for time, frame in events:
         if chance(rng, 0.25):
             result.append((max(0, time - rng.choice((1, 1, 2, 1000, LIFETIME))), frame))
+        if chance(rng, 0.1):
+            # A frame that is refused but takes the time, so that those behind it come too early.
+            result.append((time + rng.choice((1, 10, 1000)), noise_frame(rng, world)))
         if chance(rng, 0.9):
             result.append((time, frame))
     return result
@@ -588,8 +597,9 @@ def starting_time(rng, top):
                        max(0, top - rng.randrange(LIFETIME * 3))))
 
 
-def run(rng, world, top, most):
-    """Some scenes, one behind the other or woven together: at most `most` events, times at most `top`."""
+def run(rng, world, most):
+    """Some scenes, one behind the other or woven together: at most `most` events."""
+    top = world.top
     now, events = starting_time(rng, top), []
     kinds = [scene for scene, weight in SCENES for _ in range(weight)]
     for _ in range(rng.choice((1, 1, 1, 2, 2, 3))):
