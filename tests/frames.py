@@ -193,8 +193,9 @@ def udp_nhc(src_port, dst_port, checksum, plain_ports=False):
 
 
 def compress(packet, link_src, link_dst, nhc=True, elide=False, plain_ports=False, **knobs):
-    """The compressed headers of a datagram and how many of its bytes they stand for."""
-    if nhc and packet[6] == 17 and len(packet) >= 48:
+    """The compressed headers of a datagram and how many of its bytes they stand for. A UDP header can be compressed only
+    if its length is that of the payload (RFC 6282 4.3.1)."""
+    if nhc and packet[6] == 17 and len(packet) >= 48 and packet[44:46] == packet[4:6]:
         src_port, dst_port, _, checksum = struct.unpack(">HHHH", packet[40:48])
         header = iphc(packet, link_src, link_dst, compressed_next=True, **knobs)
         return header + udp_nhc(src_port, dst_port, None if elide else checksum, plain_ports), 48
