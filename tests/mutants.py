@@ -39,6 +39,31 @@ MUTANTS = [
      "        held = {p: b for at, _, t in self.slots[s].parts for p, b in enumerate(t, at)}\n"
      "        if all(held.get(begin + i) == b for i, b in enumerate(data)):\n            return True\n"
      "        for first, length, taken in self.slots[s].parts:\n            if begin <", BOTH),
+    ("equal bytes from a part's begin to a part's end are a repeat",
+     "        for first, length, taken in self.slots[s].parts:\n            if begin <",
+     "        held = {p: b for at, _, t in self.slots[s].parts for p, b in enumerate(t, at)}\n"
+     "        if all(held.get(begin + i) == b for i, b in enumerate(data)) and any(p[0] == begin for p in self.slots[s].parts) \\\n"
+     "                and any(p[0] + p[1] == begin + len(data) for p in self.slots[s].parts):\n            return True\n"
+     "        for first, length, taken in self.slots[s].parts:\n            if begin <", BOTH),
+    ("equal bytes that end where a part ends are a repeat",
+     "first == begin and length == len(data) and taken == data:",
+     "first <= begin and first + length == begin + len(data) and taken.endswith(data):", BOTH),
+    ("a slot freed by age keeps its marks",
+     "                self.slots[s] = None\n        mac = read_mac(frame)\n",
+     "                self.__dict__.setdefault('left', {})[s] = self.slots[s].parts\n"
+     "                self.slots[s] = None\n        mac = read_mac(frame)\n", BOTH),
+    ("a slot freed by a clash keeps its marks",
+     "                self.slots[s] = None\n                raise Refused(11)",
+     "                self.__dict__.setdefault('left', {})[s] = self.slots[s].parts\n"
+     "                self.slots[s] = None\n                raise Refused(11)", BOTH),
+    ("a slot freed by its cover keeps its marks",
+     "        out[:size] = datagram\n        self.slots[s] = None\n",
+     "        out[:size] = datagram\n        self.__dict__.setdefault('left', {})[s] = slot.parts\n"
+     "        self.slots[s] = None\n", BOTH),
+    ("elision of the slot's earlier datagrams stays",
+     "            slot.elided = elided\n",
+     "            flags = self.__dict__.setdefault('flags', {})\n            flags[s] = flags.get(s) or elided\n"
+     "            slot.elided = flags[s]\n", CALLS),
     ("only a part of equal place clashes", "if begin < first + length and first < begin + len(data):",
      "if begin == first:", BOTH),
     ("a clash touches from the next byte on", "if begin < first + length and first < begin + len(data):",
@@ -278,6 +303,10 @@ def load(name, old, new):
         text = text.replace("        self.slots[s] = None\n        return (\"out\", size)", "        self.done = slot.key\n        self.slots[s] = None\n        return (\"out\", size)")
     if name == "elided and carried 0 are different parts":
         text = text.replace("        s = self.find(key)\n", "        self.elided_now = elided\n        s = self.find(key)\n")
+    if name.endswith("keeps its marks"):
+        text = text.replace("self.slots[s] = Slot(key, time)\n",
+                            "self.slots[s] = Slot(key, time, self.__dict__.setdefault('left', {}).pop(s, []))\n")
+        text = text.replace("        elif self.judge", "        if self.judge")
     if name == "key with the PAN":
         text = text.replace("src, dst, size, tag = slot.key", "src, dst, size, tag = slot.key[:4]")
     module = types.ModuleType("mutant")

@@ -358,7 +358,8 @@ def ageing(rng, world, start):
             rng.shuffle(frames)
         begin = start + rng.choice((0, 0, 1, 2, rng.randrange(100)))
         split = rng.randrange(1, len(frames) + 1)
-        events = [(begin, frame) for frame in frames[:split]]
+        between = chance(rng, 0.4)
+        events = [(begin + (rng.randrange(LIFETIME) if between and i else 0), frame) for i, frame in enumerate(frames[:split])]
         late = begin + rng.choice(EDGES)
         if world.top > 2 ** 33 and chance(rng, 0.2):
             late = begin + 2 ** 32 * rng.choice((1, 2, 2 ** 16)) + rng.choice((0, 5, *EDGES))
@@ -507,6 +508,10 @@ def whole(rng, world, start):
 
 def iphc_noise(rng, world):
     """A payload that begins as IPHC does, with any modes, and often the bytes they need."""
+    if chance(rng, 0.15):
+        # Both addresses elided and a compressed next header, cut short or not.
+        head = rng.choice((rng.randrange(0xe0, 0xf8), rng.randrange(256)))
+        return bytes([0x7c | rng.randrange(1, 4), 0x33, head]) + rng.randbytes(rng.choice((0, 0, 1, 1, 2, 3, 4, 5, 6, 7)))
     base = 0x6000 | rng.randrange(0x2000)
     if chance(rng, 0.5):
         base |= 0x1800                              # no traffic class and flow label
