@@ -735,6 +735,16 @@ def check():
     assert number_of(read_mac, bytes.fromhex("010005")).length == 3
     assert number_of(read_mac, bytes.fromhex("41a0053412")).src.hex() == "1234"
 
+    # Expansion by itself: 4 first, 10 next to last, 7 last; an elided checksum stays 0 in a first part.
+    def alone(text, room, size=None):
+        out = bytearray(room)
+        return number_of(expand_alone, bytes.fromhex(text), ext, short, [], out, size), out
+    assert alone("00" * 128, 0)[0] == 4
+    assert alone("7a333a010203", 42, 42)[0] == 10 and alone("7a333a010203", 42)[0] == 7
+    assert alone("7a333a010203", 43)[0] == 43
+    assert alone("7e33f712aabb", 60)[1][46:50].hex() == "fcd9aabb"
+    assert alone("7e33f712aabb", 60, 50)[1][46:50].hex() == "0000aabb"
+
     lines = TableLines()
     assert lines.answer("gateways s0001") == "ok"
     part = "418805cdabffff0100e030000705" + "00" * 8
