@@ -2,13 +2,12 @@
 use Prim.Native.Nat.{ℕ}
 use mathlib.Core.List.{List}
 use mathlib.Core.Path.{_≡_, refl}
-use Rattle.octets.specs.Read.{Answer, is, refused, Placed, Read, andThen}
+use Rattle.octets.specs.Read.{Answer, is, refused, andThen}
 use Rattle.octets.specs.Refusal.{numberOf}
 use Rattle.octets.specs.declared.refusal.Refusal.{Refusal}
 use Rattle.octets.proofs.Steps.{on-is, on-refused}
-use Rattle.iphc.specs.Answers.{ofParsed}
+use Rattle.iphc.proofs.Steps.{on-iphc, no-iphc}
 use Rattle.iphc.specs.declared.header.Repr.{Repr}
-use Rattle.iphc.specs.declared.header.Parsed.{Parsed}
 use Rattle.sixlowpan.specs.Nhc.{nhc}
 use Rattle.sixlowpan.specs.NhcUdp.{udp}
 use Rattle.sixlowpan.specs.declared.protocol.IpProtocol.{IpProtocol}
@@ -20,12 +19,6 @@ use Rattle.expand.specs.Headers.{ofHeaders, transport, byNext}
 use Rattle.expand.specs.declared.headers.UdpField.{UdpField}
 use Rattle.expand.specs.declared.headers.Headers.{Headers}
 use Rattle.expand.specs.declared.headers.HeadersRead.{HeadersRead}
-
-pub on-iphc : {B : Type 0} {r : Answer B} {y : Parsed} {h : Repr} {n : ℕ} (m : Read Repr) (k : Placed Repr → Answer B) → ofParsed y ≡ m → y ≡ Parsed.Header h n → r ≡ k (record { value = h; next = n }) → r ≡ andThen m k
-on-iphc {h = h} {n = n} m k p q e = on-is ofParsed (Parsed.Header h n) (record { value = h; next = n }) m k refl p q e
-
-pub no-iphc : {B : Type 0} {y : Parsed} {e : Refusal} (m : Read Repr) (k : Placed Repr → Answer B) → ofParsed y ≡ m → y ≡ Parsed.Refused e → refused (numberOf e) ≡ andThen m k
-no-iphc {e = e} m k p q = on-refused ofParsed (Parsed.Refused e) (numberOf e) m k refl p q
 
 pub on-headers : {B : Type 0} {r : Answer B} {y : HeadersRead} {h : Headers} (m : Answer Headers) (k : Headers → Answer B) → ofHeaders y ≡ m → y ≡ HeadersRead.Are h → r ≡ k h → r ≡ andThen m k
 on-headers {h = h} m k p q e = on-is ofHeaders (HeadersRead.Are h) h m k refl p q e

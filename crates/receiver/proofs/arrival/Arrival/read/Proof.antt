@@ -1,0 +1,52 @@
+use Rattle.ieee802154.proofs.HeaderSteps.{header-steps}
+use Rattle.octets.proofs.Steps.{steps}
+use Rattle.octets.proofs.Steps.{flags}
+use Rattle.receiver.specs.Incoming.{arrival}
+use borrow.Author.Needs.{needs}
+use Rattle.receiver.proofs.arrival.Arrival.read.Statement.{statement}
+use Rattle.receiver.proofs.arrival.Arrival.read.Tie as tie
+
+parse-requires : tie.Need-parse-requires
+parse-requires c κs = search needs
+
+enum-known-mac : tie.Need-enum-known-mac
+enum-known-mac c = search needs
+
+returns : tie.Need-returns
+unfolding arrival
+returns c = search (header-steps, steps, flags)
+
+is-data-requires : tie.Need-is-data-requires
+is-data-requires c κs = search needs
+
+of-requires : tie.Need-of-requires
+of-requires c κs = search needs
+
+returns-2 : tie.Need-returns-2
+unfolding arrival
+returns-2 c = search (header-steps, steps, flags)
+
+enum-known-e : tie.Need-enum-known-e
+enum-known-e c = search needs
+
+returns-3 : tie.Need-returns-3
+unfolding arrival
+returns-3 c = search (header-steps, steps, flags)
+
+returns-4 : tie.Need-returns-4
+unfolding arrival
+returns-4 c = search (header-steps, steps, flags)
+
+pub read-spec : {M : Type 1} → statement M
+read-spec =
+    tie.close
+    (tie.spec
+    parse-requires
+    enum-known-mac
+    returns
+    is-data-requires
+    of-requires
+    returns-2
+    enum-known-e
+    returns-3
+    returns-4)

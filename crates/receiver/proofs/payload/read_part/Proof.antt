@@ -1,0 +1,53 @@
+use Rattle.receiver.proofs.Steps.{on-first, no-first, later-zero, later-some}
+use borrow.Author.Needs.{needs}
+use Rattle.receiver.proofs.payload.read_part.Statement.{statement}
+use Rattle.receiver.proofs.payload.read_part.Tie as tie
+
+enum-known-h : tie.Need-enum-known-h
+enum-known-h c = search needs
+
+expand-requires : tie.Need-expand-requires
+expand-requires c κs = search needs
+
+enum-known-len : tie.Need-enum-known-len
+enum-known-len c = search needs
+
+enum-known-e : tie.Need-enum-known-e
+enum-known-e c = search needs
+
+enum-known-h-2 : tie.Need-enum-known-h-2
+enum-known-h-2 c = search needs
+
+returns : tie.Need-returns
+returns c = search later-zero
+
+same-length : tie.Need-same-length
+same-length c = search needs
+
+returns-2 : tie.Need-returns-2
+returns-2 c = search on-first
+
+same-length-2 : tie.Need-same-length-2
+same-length-2 c = search needs
+
+returns-3 : tie.Need-returns-3
+returns-3 c = search no-first
+
+returns-4 : tie.Need-returns-4
+returns-4 c = search later-some
+
+pub read-part-spec : {M : Type 1} → statement M
+read-part-spec =
+    tie.close
+    (tie.spec
+    enum-known-h
+    expand-requires
+    enum-known-len
+    enum-known-e
+    enum-known-h-2
+    returns
+    same-length
+    returns-2
+    same-length-2
+    returns-3
+    returns-4)

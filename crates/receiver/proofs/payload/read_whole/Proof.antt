@@ -1,0 +1,37 @@
+use Rattle.receiver.proofs.Steps.{on-whole, no-whole}
+use borrow.Author.Needs.{needs}
+use Rattle.receiver.proofs.payload.read_whole.Statement.{statement}
+use Rattle.receiver.proofs.payload.read_whole.Tie as tie
+
+expand-requires : tie.Need-expand-requires
+expand-requires c κs = search needs
+
+enum-known-len : tie.Need-enum-known-len
+enum-known-len c = search needs
+
+enum-known-e : tie.Need-enum-known-e
+enum-known-e c = search needs
+
+same-length : tie.Need-same-length
+same-length c = search needs
+
+returns : tie.Need-returns
+returns c = search on-whole
+
+same-length-2 : tie.Need-same-length-2
+same-length-2 c = search needs
+
+returns-2 : tie.Need-returns-2
+returns-2 c = search no-whole
+
+pub read-whole-spec : {M : Type 1} → statement M
+read-whole-spec =
+    tie.close
+    (tie.spec
+    expand-requires
+    enum-known-len
+    enum-known-e
+    same-length
+    returns
+    same-length-2
+    returns-2)

@@ -1,0 +1,77 @@
+-- What a frame brings, in the scope document's order of checks ("Expansion and the slot table").
+use Prim.Native.Nat.{ℕ}
+use mathlib.Core.List.{List}
+use mathlib.Core.Bool.{Bool, true, false}
+use lib.ListN.{length, take, drop}
+use lib.Dec.{eqb}
+use Rattle.octets.specs.Read.{Answer, is, refused, Placed, andThen, choose}
+use Rattle.octets.specs.Refusal.{numberOf}
+use Rattle.octets.specs.declared.field.WordField.{WordField}
+use Rattle.ieee802154.specs.Mac.{mac}
+use Rattle.ieee802154.specs.declared.addr.Address.{Address}
+use Rattle.ieee802154.specs.declared.addr.Address.the-variants.{Absent}
+use Rattle.ieee802154.specs.declared.addr.AddressField.{AddressField}
+use Rattle.ieee802154.specs.declared.header.Repr as Mac
+use Rattle.sixlowpan.specs.Dispatch.{dispatch}
+use Rattle.sixlowpan.specs.Frag.{frag}
+use Rattle.sixlowpan.specs.declared.dispatch.SixlowpanPacket.{SixlowpanPacket}
+use Rattle.sixlowpan.specs.declared.dispatch.SixlowpanPacket.the-variants.{FragmentHeader, IphcHeader}
+use Rattle.sixlowpan.specs.declared.frag.Repr.{Repr}
+use Rattle.sixlowpan.specs.declared.frag.Repr.the-variants.{FirstFragment, Fragment}
+use Rattle.expand.specs.Expand.{Expansion, expansion}
+use Rattle.receiver.specs.declared.arrival.Arrival.{Arrival}
+use Rattle.receiver.specs.declared.arrival.ArrivalAnswer.{ArrivalAnswer}
+use Rattle.receiver.specs.declared.payload.Payload.{Payload}
+
+-- ---- who sends it to whom, and where its payload begins
+abbrev pub ofArrival : ArrivalAnswer → Answer Arrival
+ofArrival (ArrivalAnswer.Is a) = is a
+ofArrival (ArrivalAnswer.Refused e) = refused (numberOf e)
+
+abbrev pub addressOf : AddressField → Address
+addressOf AddressField.None = Absent
+addressOf (AddressField.Some a) = a
+
+abbrev pub arrivalOf : Mac.Repr → ℕ → Arrival
+arrivalOf h n = record { src = addressOf (h .«src_addr»); dst = addressOf (h .«dst_addr»); at = n }
+
+-- the MAC header's refusals; then 13: secured, or not a Data frame
+unfoldable pub arrival : List ℕ → Answer Arrival
+arrival s =
+    andThen (mac s)
+    (λ p. choose (p .value .«security_enabled») (refused 13)
+    (choose (eqb (p .value .«frame_type» .0) 1) (is (arrivalOf (p .value) (p .next))) (refused 13)))
+
+-- ---- what it brings: a whole datagram; or a part of one, with the size and tag of its key, the unit of 8 bytes that it begins at, its
+-- bytes, a first part's in full, and whether its checksum was elided
+pub data Brought : Type 0 where
+  datagram : List ℕ → Brought
+  part : ℕ → ℕ → ℕ → List ℕ → Bool → Brought
+
+-- sc: the scratch after the call; s: the frame
+abbrev pub ofPayload : Payload → List ℕ → List ℕ → Answer Brought
+ofPayload (Payload.Whole n) sc s = is (datagram (take n sc))
+ofPayload (Payload.First size tag n e) sc s = is (part size tag 0 (take n sc) e)
+ofPayload (Payload.Later size tag o from) sc s = is (part size tag (o .0) (drop from s) false)
+ofPayload (Payload.Refused e) sc s = refused (numberOf e)
+
+-- an unfragmented datagram is expanded
+unfoldable pub whole : List ℕ → Arrival → List ℕ → Answer Brought
+whole ctx a s = andThen (expansion ctx (AddressField.Some (a .src)) (AddressField.Some (a .dst)) WordField.None s (a .at)) (λ e. is (datagram (e .bytes)))
+
+-- a first part is expanded; offset 0 in a later part is refused, 10
+unfoldable pub piece : List ℕ → Arrival → Repr → ℕ → List ℕ → Answer Brought
+piece ctx a (FirstFragment size tag) next s =
+    andThen (expansion ctx (AddressField.Some (a .src)) (AddressField.Some (a .dst)) (WordField.Some size) s next) (λ e. is (part size tag 0 (e .bytes) (e .elided)))
+piece ctx a (Fragment size tag o) next s = choose (eqb (o .0) 0) (refused 10) (is (part size tag (o .0) (drop next s) false))
+
+unfoldable pub fragment : List ℕ → Arrival → List ℕ → Answer Brought
+fragment ctx a s = andThen (frag s (a .at)) (λ p. piece ctx a (p .value) (p .next) s)
+
+abbrev pub byKind : SixlowpanPacket → List ℕ → Arrival → List ℕ → Answer Brought
+byKind FragmentHeader ctx a s = fragment ctx a s
+byKind IphcHeader ctx a s = whole ctx a s
+
+-- dispatch (1, 2), and then as it says
+unfoldable pub payload : List ℕ → Arrival → List ℕ → Answer Brought
+payload ctx a s = andThen (dispatch s (a .at)) (λ k. byKind k ctx a s)

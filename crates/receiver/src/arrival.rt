@@ -1,0 +1,60 @@
+// A frame's MAC header, judged.
+ghost use mathlib.Core.Path.{_≡_};
+ghost use Rattle.receiver.specs.Incoming.{ofArrival, addressOf, arrivalOf, arrival};
+use ieee802154::Address;
+use ieee802154::AddressField;
+use ieee802154::Parsed;
+use ieee802154::Repr;
+use octets::refusal::Refusal;
+
+// Who sends a frame to whom, and where its payload begins.
+pub struct Arrival {
+    pub src: Address,
+    pub dst: Address,
+    pub at: usize,
+}
+
+pub enum ArrivalAnswer {
+    Is(Arrival),
+    Refused(Refusal),
+}
+
+// A header without addressing has no address, as one whose address is absent.
+fn address_of(a: AddressField) -> Address
+    ensures { λ r. ⌜ r ≡ addressOf a ⌝ }
+{
+    match a {
+        AddressField::None => Address::Absent,
+        AddressField::Some(x) => x,
+    }
+}
+
+impl Arrival {
+    fn of(mac: Repr, at: usize) -> Arrival
+        ensures { λ r. ⌜ r ≡ arrivalOf mac at ⌝ }
+    {
+        let s = mac.src_addr;
+        let d = mac.dst_addr;
+        let src = address_of(s);
+        let dst = address_of(d);
+        Arrival { src, dst, at }
+    }
+
+    // The refusals of the MAC header, and then 13: secured, or not a Data frame.
+    pub(crate) fn read(frame: &[u8]) -> ArrivalAnswer
+        ensures { λ r. ⌜ ofArrival r ≡ arrival (now (frame .entry)) ⌝ }
+    {
+        match Repr::parse(frame) {
+            Parsed::Header(mac, at) => {
+                if mac.security_enabled {
+                    return ArrivalAnswer::Refused(Refusal::NotExpanded);
+                }
+                if mac.frame_type.is_data() {
+                    return ArrivalAnswer::Is(Arrival::of(mac, at));
+                }
+                ArrivalAnswer::Refused(Refusal::NotExpanded)
+            }
+            Parsed::Refused(e) => ArrivalAnswer::Refused(e),
+        }
+    }
+}

@@ -1,0 +1,120 @@
+// A frame's payload: a whole datagram, or a part of one.
+ghost use mathlib.Core.Path.{_≡_};
+ghost use Prim.Native.Nat.{_≤_};
+ghost use lib.ListN.{length};
+ghost use Rattle.receiver.specs.Incoming.{ofPayload, whole, piece, fragment, payload};
+use super::arrival::Arrival;
+use expand::Expanded;
+use expand::expand;
+use ieee802154::AddressField;
+use octets::cursor::Cursor;
+use octets::field::WordField;
+use octets::refusal::Refusal;
+use sixlowpan::SixlowpanPacket;
+use sixlowpan::dispatch::DispatchAnswer;
+use sixlowpan::frag;
+use sixlowpan::frag::Units;
+
+// What a payload is. The bytes of a whole datagram and of a first part, in full, stand at the scratch's start; those of a
+// later part stand in the frame, from a place on.
+pub enum Payload {
+    Whole(usize),
+    First {
+        size: u16,
+        tag: u16,
+        len: usize,
+        elided: bool,
+    },
+    Later {
+        size: u16,
+        tag: u16,
+        offset: Units,
+        from: usize,
+    },
+    Refused(Refusal),
+}
+
+// An unfragmented datagram.
+fn read_whole(frame: &[u8], a: Arrival, contexts: &[u8], scratch: &mut [u8]) -> Payload
+    requires { ⌜ 175 ≤ length (now scratch) ⌝ }
+    ensures { λ r. ⌜ ofPayload r (now (scratch .exit)) (now (frame .entry)) ≡ whole (now (contexts .entry)) a (now (frame .entry)) ⌝ }
+{
+    let src = a.src;
+    let dst = a.dst;
+    let ls = AddressField::Some(src);
+    let ld = AddressField::Some(dst);
+    let c = Cursor { at: a.at };
+    match expand(frame, c, ls, ld, contexts, WordField::None, scratch) {
+        Expanded::Datagram { len, elided: _ } => Payload::Whole(len),
+        Expanded::Refused(e) => Payload::Refused(e),
+    }
+}
+
+// A part, whose fragment header ends at `next`.
+fn read_part(
+    frame: &[u8],
+    a: Arrival,
+    h: frag::Repr,
+    next: usize,
+    contexts: &[u8],
+    scratch: &mut [u8],
+) -> Payload
+    requires { ⌜ 175 ≤ length (now scratch) ⌝ }
+    ensures { λ r. ⌜ ofPayload r (now (scratch .exit)) (now (frame .entry)) ≡ piece (now (contexts .entry)) a h next (now (frame .entry)) ⌝ }
+{
+    match h {
+        frag::Repr::FirstFragment { size, tag } => {
+            let src = a.src;
+            let dst = a.dst;
+            let ls = AddressField::Some(src);
+            let ld = AddressField::Some(dst);
+            let c = Cursor { at: next };
+            match expand(frame, c, ls, ld, contexts, WordField::Some(size), scratch) {
+                Expanded::Datagram { len, elided } => Payload::First {
+                    size,
+                    tag,
+                    len,
+                    elided,
+                },
+                Expanded::Refused(e) => Payload::Refused(e),
+            }
+        }
+        frag::Repr::Fragment { size, tag, offset } => {
+            if offset.0 == 0 {
+                return Payload::Refused(Refusal::BadPart);
+            }
+            Payload::Later {
+                size,
+                tag,
+                offset,
+                from: next,
+            }
+        }
+    }
+}
+
+fn read_fragment(frame: &[u8], a: Arrival, contexts: &[u8], scratch: &mut [u8]) -> Payload
+    requires { ⌜ 175 ≤ length (now scratch) ⌝ }
+    ensures { λ r. ⌜ ofPayload r (now (scratch .exit)) (now (frame .entry)) ≡ fragment (now (contexts .entry)) a (now (frame .entry)) ⌝ }
+{
+    match frag::Repr::read(frame, Cursor { at: a.at }) {
+        frag::Parsed::Header(h, next) => read_part(frame, a, h, next, contexts, scratch),
+        frag::Parsed::Refused(e) => Payload::Refused(e),
+    }
+}
+
+impl Payload {
+    // What stands behind the MAC header: by its dispatch, a compressed header or a fragment header.
+    pub(crate) fn read(frame: &[u8], a: Arrival, contexts: &[u8], scratch: &mut [u8]) -> Payload
+        requires { ⌜ 175 ≤ length (now scratch) ⌝ }
+        ensures { λ r. ⌜ ofPayload r (now (scratch .exit)) (now (frame .entry)) ≡ payload (now (contexts .entry)) a (now (frame .entry)) ⌝ }
+    {
+        match SixlowpanPacket::dispatch_at(frame, Cursor { at: a.at }) {
+            DispatchAnswer::Is(kind) => match kind {
+                SixlowpanPacket::FragmentHeader => read_fragment(frame, a, contexts, scratch),
+                SixlowpanPacket::IphcHeader => read_whole(frame, a, contexts, scratch),
+            },
+            DispatchAnswer::Refused(e) => Payload::Refused(e),
+        }
+    }
+}
