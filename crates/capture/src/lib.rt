@@ -1,0 +1,3 @@
+// Capture blocks.
+pub mod fcs;
+mod table;
