@@ -1,3 +1,4 @@
 // Capture blocks.
+pub mod block;
 pub mod fcs;
 mod table;
