@@ -1,3 +1,5 @@
 pub mod Register
 pub mod Entries
 pub mod BlockSteps
+pub mod Parts
+pub mod Made

@@ -1,0 +1,108 @@
+-- Parts of a list: what stands from a place on, and what fields and runs of zeros say of it, both ways.
+use Prim.Native.Nat.{ℕ, zero, suc, _+_, _*_, _-_, _/_, _%_, _^_, _≤_, _<_}
+use native.Mathlib.Nat.{zero-add}
+use native.Mathlib.Numerals.{add-one}
+use native.Mathlib.Omega.{arith}
+use mathlib.Core.Path.{_≡_, refl, sym, ap, ap₂, _∙_}
+use mathlib.Core.List.{List, [], _∷_, _++_, append-assoc}
+use mathlib.Core.Bool.{Bool, true, false, _&&_}
+use lib.Dec.{eqb}
+use lib.ListN.{length, getD, take, drop, replicate, take-append-drop, length-replicate}
+use lib.Seq.{slice, take-at, drop-at, drop-drop, drop-cons, take-add, length-take-le, length-slice}
+use borrow.Author.Tests.{eqb-true}
+use Rattle.octets.specs.Read.{Reader, Read, got, le16, le32}
+use Rattle.octets.specs.Write.{le16Bytes, le32Bytes}
+use Rattle.octets.proofs.RoundTrip.{Reads, reads-le16, reads-le32}
+use Rattle.octets.proofs.Steps.{and-true}
+use Rattle.capture.specs.Block.{valueOf, field, allZero, zeroIn}
+use Rattle.capture.specs.Made.{Bytes}
+
+module _ (s : List ℕ) (n : ℕ) where
+  -- behind a part of m elements
+  pub behind : (m : ℕ) (p q : List ℕ) → length p ≡ m → drop n s ≡ p ++ q → drop (n + m) s ≡ q
+  behind m p q l e = sym (drop-drop m n s) ∙ ap (drop m) e ∙ drop-at p q m l
+
+  -- m elements, and then the rest
+  pub split : (m : ℕ) → drop n s ≡ take m (drop n s) ++ drop (n + m) s
+  split m = sym (take-append-drop m (drop n s)) ∙ ap (λ (l : List ℕ). take m (drop n s) ++ l) (drop-drop m n s)
+
+  pub one-more : n < length s → drop n s ≡ getD s n 0 ∷ drop (n + 1) s
+  one-more h = drop-cons s n 0 h ∙ ap (λ (k : ℕ). getD s n 0 ∷ drop k s) (sym (add-one n))
+
+  pub field-at : (m : Reader ℕ) (bs q : List ℕ) (x : ℕ) → Reads m bs x → n ≤ length s → drop n s ≡ bs ++ q → field m n s ≡ x
+  field-at m bs q x r h e =
+      let f : take n s ++ (bs ++ q) ≡ s = ap (λ (l : List ℕ). take n s ++ l) (sym e) ∙ take-append-drop n s in
+      ap (λ (l : List ℕ). valueOf (m l n)) (sym f) ∙ ap valueOf (r (take n s) q n (length-take-le n s h))
+
+-- ---- numbers
+two-back : (a b : ℕ) → a < 256 → b < 256 → a ∷ b ∷ [] ≡ le16Bytes (a + b * 256)
+unfolding le16Bytes
+two-back a b h k =
+    let p : a ≡ (a + b * 256) % 256 = omega arith in
+    let q : b ≡ (a + b * 256) / 256 = omega arith in
+    ap₂ (λ (x y : ℕ). x ∷ y ∷ []) p q
+
+four-back : (a b c d : ℕ) → a < 256 → b < 256 → c < 256 → d < 256 → a ∷ b ∷ c ∷ d ∷ [] ≡ le32Bytes (a + b * 256 + (c + d * 256) * 2 ^ 16)
+unfolding le32Bytes
+four-back a b c d ha hb hc hd =
+    let p : a + b * 256 ≡ (a + b * 256 + (c + d * 256) * 2 ^ 16) % 2 ^ 16 = omega arith in
+    let q : c + d * 256 ≡ (a + b * 256 + (c + d * 256) * 2 ^ 16) / 2 ^ 16 = omega arith in
+    ap₂ _++_ (two-back a b ha hb ∙ ap le16Bytes p) (two-back c d hc hd ∙ ap le16Bytes q)
+
+module _ (s : List ℕ) (n : ℕ) (y : Bytes s) where
+  two : n + 2 ≤ length s → drop n s ≡ getD s n 0 ∷ getD s (n + 1) 0 ∷ drop (n + 1 + 1) s
+  two h =
+      let g : n < length s = omega arith in
+      let k : n + 1 < length s = omega arith in
+      one-more s n g ∙ ap (λ (l : List ℕ). getD s n 0 ∷ l) (one-more s (n + 1) k)
+
+  -- the bytes of a field that was read
+  back : (m : Reader ℕ) (enc : ℕ → List ℕ) → ((x : ℕ) → Reads m (enc x) x) → (x : ℕ) (q : List ℕ) → n ≤ length s → drop n s ≡ enc x ++ q → drop n s ≡ enc (field m n s) ++ q
+  back m enc r x q h e = e ∙ ap (λ (z : ℕ). enc z ++ q) (sym (field-at s n m (enc x) q x (r x) h e))
+
+  pub word-back : n + 2 ≤ length s → drop n s ≡ le16Bytes (field le16 n s) ++ drop (n + 2) s
+  word-back h =
+      let k : n + 1 + 1 ≡ n + 2 = omega arith in
+      let e = two h ∙ ap₂ _++_ (two-back (getD s n 0) (getD s (n + 1) 0) (y n) (y (n + 1))) (ap (λ (z : ℕ). drop z s) k) in
+      back le16 le16Bytes reads-le16 (getD s n 0 + getD s (n + 1) 0 * 256) (drop (n + 2) s) (omega arith) e
+
+module _ (s : List ℕ) (n : ℕ) (y : Bytes s) where
+  pub wide-back : n + 4 ≤ length s → drop n s ≡ le32Bytes (field le32 n s) ++ drop (n + 4) s
+  wide-back h =
+      let k : n + 1 + 1 + 1 + 1 ≡ n + 4 = omega arith in
+      let i : n + 2 ≤ length s = omega arith in
+      let j : n + 1 + 1 + 2 ≤ length s = omega arith in
+      let a = getD s n 0 in
+      let b = getD s (n + 1) 0 in
+      let c = getD s (n + 1 + 1) 0 in
+      let d = getD s (n + 1 + 1 + 1) 0 in
+      let e : drop n s ≡ (a ∷ b ∷ c ∷ d ∷ []) ++ drop (n + 1 + 1 + 1 + 1) s = two s n y i ∙ ap (λ (l : List ℕ). a ∷ b ∷ l) (two s (n + 1 + 1) y j) in
+      let f = ap₂ _++_ (four-back a b c d (y n) (y (n + 1)) (y (n + 1 + 1)) (y (n + 1 + 1 + 1))) (ap (λ (z : ℕ). drop z s) k) in
+      back s n y le32 le32Bytes reads-le32 (a + b * 256 + (c + d * 256) * 2 ^ 16) (drop (n + 4) s) (omega arith) (e ∙ f)
+
+-- ---- zeros
+zero-all : (m : ℕ) → allZero (replicate m 0) ≡ true
+unfolding allZero
+zero-all zero = refl
+zero-all (suc m) = zero-all m
+
+all-back : (l : List ℕ) → allZero l ≡ true → l ≡ replicate (length l) 0
+unfolding allZero
+all-back [] h = refl
+all-back (b ∷ l) h =
+    let p = and-true (eqb b 0) (allZero l) h in
+    ap₂ _∷_ (eqb-true b 0 (p .0)) (all-back l (p .1))
+
+module _ (s : List ℕ) (f t m : ℕ) (e : t ≡ f + m) where
+  part-of : f ≤ length s → slice f t s ≡ take m (drop f s)
+  part-of h = rw e (ap (drop f) (take-add f m s) ∙ drop-at (take f s) (take m (drop f s)) f (length-take-le f s h))
+
+  pub zeros-at : (q : List ℕ) → f ≤ length s → drop f s ≡ replicate m 0 ++ q → zeroIn f t s ≡ true
+  zeros-at q h d = ap allZero (part-of h ∙ ap (take m) d ∙ take-at (replicate m 0) q m (length-replicate m 0)) ∙ zero-all m
+
+  pub zeros-back : t ≤ length s → zeroIn f t s ≡ true → drop f s ≡ replicate m 0 ++ drop t s
+  zeros-back h z =
+      let g : f ≤ length s = omega arith in
+      let k : t - f ≡ m = omega arith in
+      let p : take m (drop f s) ≡ replicate m 0 = sym (part-of g) ∙ all-back (slice f t s) z ∙ ap (λ (x : ℕ). replicate x 0) (length-slice f t s h ∙ k) in
+      split s f m ∙ ap₂ (λ (l : List ℕ) (x : ℕ). l ++ drop x s) p (sym e)
