@@ -3,3 +3,4 @@ pub mod Entries
 pub mod BlockSteps
 pub mod Parts
 pub mod Made
+pub mod Exact

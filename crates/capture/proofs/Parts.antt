@@ -8,7 +8,7 @@ use mathlib.Core.List.{List, [], _∷_, _++_, append-assoc}
 use mathlib.Core.Bool.{Bool, true, false, _&&_}
 use lib.Dec.{eqb}
 use lib.ListN.{length, getD, take, drop, replicate, take-append-drop, length-replicate}
-use lib.Seq.{slice, take-at, drop-at, drop-drop, drop-cons, take-add, length-take-le, length-slice}
+use lib.Seq.{slice, getD-drop, take-at, drop-at, drop-drop, drop-cons, take-add, length-take-le, length-slice}
 use borrow.Author.Tests.{eqb-true}
 use Rattle.octets.specs.Read.{Reader, Read, got, le16, le32}
 use Rattle.octets.specs.Write.{le16Bytes, le32Bytes}
@@ -57,28 +57,36 @@ module _ (s : List ℕ) (n : ℕ) (y : Bytes s) where
       one-more s n g ∙ ap (λ (l : List ℕ). getD s n 0 ∷ l) (one-more s (n + 1) k)
 
   -- the bytes of a field that was read
-  back : (m : Reader ℕ) (enc : ℕ → List ℕ) → ((x : ℕ) → Reads m (enc x) x) → (x : ℕ) (q : List ℕ) → n ≤ length s → drop n s ≡ enc x ++ q → drop n s ≡ enc (field m n s) ++ q
-  back m enc r x q h e = e ∙ ap (λ (z : ℕ). enc z ++ q) (sym (field-at s n m (enc x) q x (r x) h e))
-
   pub word-back : n + 2 ≤ length s → drop n s ≡ le16Bytes (field le16 n s) ++ drop (n + 2) s
   word-back h =
       let k : n + 1 + 1 ≡ n + 2 = omega arith in
+      let x : ℕ = getD s n 0 + getD s (n + 1) 0 * 256 in
       let e = two h ∙ ap₂ _++_ (two-back (getD s n 0) (getD s (n + 1) 0) (y n) (y (n + 1))) (ap (λ (z : ℕ). drop z s) k) in
-      back le16 le16Bytes reads-le16 (getD s n 0 + getD s (n + 1) 0 * 256) (drop (n + 2) s) (omega arith) e
+      e ∙ ap (λ (z : ℕ). le16Bytes z ++ drop (n + 2) s) (sym (field-at s n le16 (le16Bytes x) (drop (n + 2) s) x (reads-le16 x) (omega arith) e))
 
-module _ (s : List ℕ) (n : ℕ) (y : Bytes s) where
-  pub wide-back : n + 4 ≤ length s → drop n s ≡ le32Bytes (field le32 n s) ++ drop (n + 4) s
-  wide-back h =
+module _ (s : List ℕ) (n : ℕ) (y : Bytes s) (h : n + 4 ≤ length s) where
+  wide : ℕ
+  wide = getD s n 0 + getD s (n + 1) 0 * 256 + (getD s (n + 1 + 1) 0 + getD s (n + 1 + 1 + 1) 0 * 256) * 2 ^ 16
+
+  wide-bytes : drop n s ≡ le32Bytes wide ++ drop (n + 4) s
+  unfolding wide
+  wide-bytes =
       let k : n + 1 + 1 + 1 + 1 ≡ n + 4 = omega arith in
       let i : n + 2 ≤ length s = omega arith in
       let j : n + 1 + 1 + 2 ≤ length s = omega arith in
-      let a = getD s n 0 in
-      let b = getD s (n + 1) 0 in
-      let c = getD s (n + 1 + 1) 0 in
-      let d = getD s (n + 1 + 1 + 1) 0 in
-      let e : drop n s ≡ (a ∷ b ∷ c ∷ d ∷ []) ++ drop (n + 1 + 1 + 1 + 1) s = two s n y i ∙ ap (λ (l : List ℕ). a ∷ b ∷ l) (two s (n + 1 + 1) y j) in
-      let f = ap₂ _++_ (four-back a b c d (y n) (y (n + 1)) (y (n + 1 + 1)) (y (n + 1 + 1 + 1))) (ap (λ (z : ℕ). drop z s) k) in
-      back s n y le32 le32Bytes reads-le32 (a + b * 256 + (c + d * 256) * 2 ^ 16) (drop (n + 4) s) (omega arith) (e ∙ f)
+      two s n y i
+      ∙ ap (λ (l : List ℕ). getD s n 0 ∷ getD s (n + 1) 0 ∷ l) (two s (n + 1 + 1) y j)
+      ∙ ap₂ _++_ (four-back _ _ _ _ (y n) (y (n + 1)) (y (n + 1 + 1)) (y (n + 1 + 1 + 1))) (ap (λ (z : ℕ). drop z s) k)
+
+  wide-is : field le32 n s ≡ wide
+  wide-is = field-at s n le32 (le32Bytes wide) (drop (n + 4) s) wide (reads-le32 wide) (omega arith) wide-bytes
+
+  pub wide-back : drop n s ≡ le32Bytes (field le32 n s) ++ drop (n + 4) s
+  wide-back = wide-bytes ∙ ap (λ (z : ℕ). le32Bytes z ++ drop (n + 4) s) (sym wide-is)
+
+  pub wide-small : field le32 n s < 2 ^ 32
+  unfolding wide
+  wide-small = omega (arith, wide-is, y n, y (n + 1), y (n + 1 + 1), y (n + 1 + 1 + 1))
 
 -- ---- zeros
 zero-all : (m : ℕ) → allZero (replicate m 0) ≡ true
@@ -106,3 +114,38 @@ module _ (s : List ℕ) (f t m : ℕ) (e : t ≡ f + m) where
       let k : t - f ≡ m = omega arith in
       let p : take m (drop f s) ≡ replicate m 0 = sym (part-of g) ∙ all-back (slice f t s) z ∙ ap (λ (x : ℕ). replicate x 0) (length-slice f t s h ∙ k) in
       split s f m ∙ ap₂ (λ (l : List ℕ) (x : ℕ). l ++ drop x s) p (sym e)
+
+-- ---- bytes
+pub bytes-append : (p q : List ℕ) → Bytes p → Bytes q → Bytes (p ++ q)
+bytes-append [] q x y i = y i
+bytes-append (a ∷ p) q x y zero = x 0
+bytes-append (a ∷ p) q x y (suc i) = bytes-append p q (λ j. x (suc j)) y i
+
+pub bytes-nil : Bytes []
+bytes-nil i = omega arith
+
+pub bytes-cons : (a : ℕ) (q : List ℕ) → a < 256 → Bytes q → Bytes (a ∷ q)
+bytes-cons a q h y zero = h
+bytes-cons a q h y (suc i) = y i
+
+pub bytes-zeros : (m : ℕ) → Bytes (replicate m 0)
+bytes-zeros zero i = omega arith
+bytes-zeros (suc m) zero = omega arith
+bytes-zeros (suc m) (suc i) = bytes-zeros m i
+
+pub bytes-take : (m : ℕ) (l : List ℕ) → Bytes l → Bytes (take m l)
+bytes-take zero l y i = omega arith
+bytes-take (suc m) [] y i = omega arith
+bytes-take (suc m) (a ∷ l) y zero = y 0
+bytes-take (suc m) (a ∷ l) y (suc i) = bytes-take m l (λ j. y (suc j)) i
+
+pub bytes-drop : (m : ℕ) (l : List ℕ) → Bytes l → Bytes (drop m l)
+bytes-drop m l y i = rw (getD-drop m l i 0) (y (m + i))
+
+pub bytes-16 : (x : ℕ) → x < 2 ^ 16 → Bytes (le16Bytes x)
+unfolding le16Bytes
+bytes-16 x h = bytes-cons (x % 256) (x / 256 ∷ []) (omega arith) (bytes-cons (x / 256) [] (omega arith) bytes-nil)
+
+pub bytes-32 : (x : ℕ) → x < 2 ^ 32 → Bytes (le32Bytes x)
+unfolding le32Bytes
+bytes-32 x h = bytes-append (le16Bytes (x % 2 ^ 16)) (le16Bytes (x / 2 ^ 16)) (bytes-16 (x % 2 ^ 16) (omega arith)) (bytes-16 (x / 2 ^ 16) (omega arith))

@@ -4,8 +4,9 @@ use mathlib.Core.List.{List, [], _∷_}
 use Prim.Native.Nat.{ℕ, zero, suc, _+_, _*_, _/_, _%_, _^_, _<_, _≤_}
 use native.Mathlib.Nat.{not-suc-le-zero, le-of-suc-le-suc, mod-lt, zero-lt-suc, div-add-mod', div-eq-of-lt, div-one, div-div-eq-div-mul, pow-succ'}
 use native.Mathlib.Numerals.{add-one}
+use native.Mathlib.Omega.{arith}
 use lib.Arith.{bin-ind}
-use lib.Bits.{bitAnd, and-mask, bitXor, differ, xor-step, xor-shr, xor-mod, xor-comm, xor-zero-r, xor-zero-l, block-half, block-odd}
+use lib.Bits.{bitAnd, and-mask, bitXor, differ, xor-step, xor-shr, xor-mod, xor-comm, xor-zero-r, xor-zero-l, xor-lt, block-half, block-odd}
 use lib.ListN.{length, getD, drop, drop-of-length-le}
 use lib.Seq.{drop-cons}
 use Rattle.capture.specs.Fcs.{generator, bitIn, bitsIn, byteIn, fcsFrom}
@@ -76,3 +77,20 @@ turn s i r h = sym (ap (fcsFrom r) (drop-cons s i 0 h ∙ ap (λ (k : ℕ). getD
 pub end : (s : List ℕ) (i r : ℕ) → length s ≤ i → fcsFrom r (drop i s) ≡ r
 unfolding fcsFrom
 end s i r h = ap (fcsFrom r) (drop-of-length-le s h)
+
+-- ---- the register has 16 bits
+bit-small : (r b : ℕ) → r < 2 ^ 16 → b < 2 → bitIn r b < 2 ^ 16
+bit-small r b h k =
+    let g : bitXor (r % 2) b < 2 ^ 1 = xor-lt 1 (r % 2) b (low r) k in
+    let p : bitXor (r % 2) b * generator < 2 ^ 16 = omega arith in
+    xor-lt 16 (r / 2) (bitXor (r % 2) b * generator) (omega arith) p
+
+bits-small : (n r x : ℕ) → r < 2 ^ 16 → bitsIn n r x < 2 ^ 16
+unfolding bitsIn
+bits-small zero r x h = h
+bits-small (suc n) r x h = bits-small n (bitIn r (x % 2)) (x / 2) (bit-small r (x % 2) h (low x))
+
+pub fcs-small : (s : List ℕ) (r : ℕ) → r < 2 ^ 16 → fcsFrom r s < 2 ^ 16
+unfolding fcsFrom
+fcs-small [] r h = h
+fcs-small (b ∷ s) r h = fcs-small s (byteIn r b) (bits-small 8 r b h)
