@@ -4,3 +4,5 @@ pub mod BlockSteps
 pub mod Parts
 pub mod Made
 pub mod Exact
+pub mod Unique
+pub mod Examples
