@@ -1,6 +1,6 @@
--- The definition of a good block is exact: the good blocks of bytes are those that a writer makes of what a block can hold, and each
--- is made of its own frames.
-use Prim.Native.Nat.{ℕ, zero, suc, _+_, _*_, _-_, _^_, _≤_, _<_, min}
+-- The definition of a good block is exact. A good block of bytes is what a writer makes of the block's own frames (`good-made`), and these
+-- are what a block can hold (`good-holds`); what a writer makes of what a block can hold is bytes (`made-bytes`), and good (Made).
+use Prim.Native.Nat.{ℕ, zero, suc, _+_, _-_, _^_, _≤_, _<_, min}
 use native.Mathlib.Omega.{arith}
 use mathlib.Core.Path.{_≡_, refl, sym, ap, ap₂, _∙_}
 use mathlib.Core.List.{List, [], _∷_, _++_, append-assoc, append-nil}
@@ -8,16 +8,16 @@ use mathlib.Core.Bool.{Bool, true, false, _&&_}
 use lib.Dec.{eqb, leb, ltb}
 use lib.ListN.{length, getD, take, drop, replicate, length-take, length-drop, drop-of-length-le}
 use lib.Seq.{getD-take, take-at, length-take-le}
-use borrow.Author.Tests.{eq-eqb, eqb-true, leb-true, ltb-true, ltb-false, lt-ltb, le-ltb}
-use Rattle.octets.specs.Read.{choose, le16, le32}
+use borrow.Author.Tests.{eq-eqb, eqb-true, leb-true, ltb-true, lt-ltb}
+use Rattle.octets.specs.Read.{is, refused, choose, le16, le32}
 use Rattle.octets.specs.Write.{le16Bytes, le32Bytes}
 use Rattle.octets.proofs.Steps.{and-true}
 use Rattle.capture.specs.Fcs.{fcsOf}
-use Rattle.capture.specs.Block.{Timed, field, placeAt, countOf, lengthAt, timeOf, frameOf, timedOf, framesOf, zeroIn, goodPlace, goodHead, goodPlaces, goodEnd, goodBlock}
+use Rattle.capture.specs.Block.{Timed, field, placeAt, countOf, lengthAt, timeOf, frameOf, timedOf, framesOf, zeroIn, goodPlace, goodHead, goodPlaces, goodEnd, goodBlock, judged}
 use Rattle.capture.specs.Made.{noFrame, placeOf, placeIn, bodyOf, blockOf, Bytes, Fits, Holds}
 use Rattle.capture.proofs.Register.{fcs-small}
 use Rattle.capture.proofs.BlockSteps.{count-small, count-whole}
-use Rattle.capture.proofs.Parts.{one-more, split, wide-back, wide-small, word-back, zeros-back, bytes-append, bytes-cons, bytes-nil, bytes-zeros, bytes-take, bytes-drop, bytes-16, bytes-32}
+use Rattle.capture.proofs.Parts.{one-more, split, wide-back, wide-small, word-back, zeros-back, bytes-append, bytes-cons, bytes-zeros, bytes-take, bytes-drop, bytes-16, bytes-32}
 use Rattle.capture.proofs.Made.{body-length}
 
 -- ---- the frames of a block
@@ -27,11 +27,12 @@ at-go s (suc zero) h = refl
 at-go s (suc (suc zero)) h = refl
 at-go s (suc (suc (suc k))) h = absurd (omega arith)
 
-frames-length : (s : List ℕ) → length (framesOf s) ≡ countOf s
+pub frames-length : (s : List ℕ) → length (framesOf s) ≡ countOf s
 unfolding framesOf
 frames-length s = length-take-le (countOf s) (timedOf 0 s ∷ timedOf 1 s ∷ timedOf 2 s ∷ []) (count-small s)
 
-frames-at : (s : List ℕ) (k : ℕ) → k < countOf s → getD (framesOf s) k noFrame ≡ timedOf k s
+-- what `time` and `frame` answer is what the list of frames has there
+pub frames-at : (s : List ℕ) (k : ℕ) → k < countOf s → getD (framesOf s) k noFrame ≡ timedOf k s
 unfolding framesOf
 frames-at s k h = getD-take (countOf s) _ k noFrame h ∙ at-go s k (omega (arith, count-small s))
 
@@ -190,3 +191,12 @@ module _ (b : ℕ) (fs : List Timed) (h : Holds b fs) where
       let y = bytes-cons (length fs) (0 ∷ p0) (omega arith) (bytes-cons 0 p0 (omega arith) y0) in
       bytes-append (bodyOf b fs) (le16Bytes (fcsOf (bodyOf b fs))) (bytes-append (le32Bytes b) (length fs ∷ 0 ∷ p0) (bytes-32 b (h .number)) y)
       (bytes-16 (fcsOf (bodyOf b fs)) (fcs-small (bodyOf b fs) 0 (omega arith)))
+
+-- ---- numbers end at 2^32 - 1
+numbers-go : (b : ℕ) (s : List ℕ) → Bytes s → 2 ^ 32 ≤ b → (t : Bool) → goodBlock b s ≡ t → choose t (is (countOf s)) (refused 15) ≡ refused 15
+numbers-go b s y h true g = let n = good-holds b s y g .number in absurd (omega arith)
+numbers-go b s y h false g = refl
+
+pub numbers-end : (b : ℕ) (s : List ℕ) → Bytes s → 2 ^ 32 ≤ b → judged b s ≡ refused 15
+unfolding judged
+numbers-end b s y h = numbers-go b s y h (goodBlock b s) refl

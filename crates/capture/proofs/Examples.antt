@@ -2,7 +2,7 @@
 use Prim.Native.Nat.{ℕ}
 use mathlib.Core.Path.{_≡_, refl}
 use mathlib.Core.Bool.{true}
-use mathlib.Core.List.{List, [], _∷_, _++_}
+use mathlib.Core.List.{[], _∷_}
 use lib.ListN.{drop, replicate}
 use Rattle.octets.specs.Read.{byte, le16, le32}
 use Rattle.octets.specs.Write.{le16Bytes, le32Bytes}

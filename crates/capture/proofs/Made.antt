@@ -1,20 +1,20 @@
--- What a writer makes is a good block, and it holds the frames that it was made of.
-use Prim.Native.Nat.{ℕ, zero, suc, _+_, _*_, _-_, _^_, _≤_, _<_, min}
-use native.Mathlib.Nat.{not-suc-le-zero, le-of-suc-le-suc}
+-- What a writer makes of at most three frames of at most 127 bytes is a good block (`made-good`, `made-judged`), and it holds the frames
+-- and times that it was made of (`made-frames`).
+use Prim.Native.Nat.{ℕ, _+_, _-_, _≤_, _<_, min}
 use native.Mathlib.Omega.{arith}
 use mathlib.Core.Path.{_≡_, refl, sym, ap, ap₂, _∙_}
 use mathlib.Core.List.{List, [], _∷_, _++_, append-assoc, append-nil}
-use mathlib.Core.Bool.{Bool, true, false, _&&_}
-use lib.Dec.{eqb, leb, ltb}
+use mathlib.Core.Bool.{Bool, true, false}
+use lib.Dec.{ltb}
 use lib.ListN.{length, getD, take, drop, replicate, length-append, length-replicate}
 use lib.Seq.{getD-drop, drop-drop, take-at}
 use borrow.Author.Tests.{eq-eqb, le-leb, ltb-true, ltb-false, lt-ltb, le-ltb}
-use Rattle.octets.specs.Read.{choose, le16, le32}
+use Rattle.octets.specs.Read.{is, choose, le16, le32}
 use Rattle.octets.specs.Write.{le16Bytes, le32Bytes}
 use Rattle.octets.proofs.RoundTrip.{reads-le16, reads-le32}
 use Rattle.capture.specs.Fcs.{fcsOf}
-use Rattle.capture.specs.Block.{Timed, field, placeAt, countOf, lengthAt, timeOf, frameOf, timedOf, framesOf, zeroIn, goodPlace, goodHead, goodPlaces, goodEnd, goodBlock}
-use Rattle.capture.specs.Made.{noFrame, placeOf, placeIn, bodyOf, blockOf, Fits, Holds}
+use Rattle.capture.specs.Block.{Timed, field, placeAt, countOf, timeOf, frameOf, timedOf, framesOf, zeroIn, goodPlace, goodHead, goodPlaces, goodEnd, goodBlock, judged}
+use Rattle.capture.specs.Made.{noFrame, placeOf, placeIn, bodyOf, blockOf}
 use Rattle.capture.proofs.Parts.{behind, field-at, zeros-at}
 
 -- ---- a place
@@ -170,6 +170,10 @@ module _ (b : ℕ) (fs : List Timed) (few : length fs ≤ 3) (each : (k : ℕ) �
   pub made-good : goodBlock b (blockOf b fs) ≡ true
   unfolding goodBlock
   made-good = rw (eq-eqb (length (blockOf b fs)) 512 block-length, made-head, made-places) made-end
+
+  pub made-judged : judged b (blockOf b fs) ≡ is (length fs)
+  unfolding judged
+  made-judged = rw made-good (ap is made-count)
 
   pub made-frames : framesOf (blockOf b fs) ≡ fs
   unfolding framesOf

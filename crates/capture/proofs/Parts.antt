@@ -1,16 +1,15 @@
 -- Parts of a list: what stands from a place on, and what fields and runs of zeros say of it, both ways.
 use Prim.Native.Nat.{ℕ, zero, suc, _+_, _*_, _-_, _/_, _%_, _^_, _≤_, _<_}
-use native.Mathlib.Nat.{zero-add}
 use native.Mathlib.Numerals.{add-one}
 use native.Mathlib.Omega.{arith}
 use mathlib.Core.Path.{_≡_, refl, sym, ap, ap₂, _∙_}
-use mathlib.Core.List.{List, [], _∷_, _++_, append-assoc}
-use mathlib.Core.Bool.{Bool, true, false, _&&_}
+use mathlib.Core.List.{List, [], _∷_, _++_}
+use mathlib.Core.Bool.{true}
 use lib.Dec.{eqb}
 use lib.ListN.{length, getD, take, drop, replicate, take-append-drop, length-replicate}
 use lib.Seq.{slice, getD-drop, take-at, drop-at, drop-drop, drop-cons, take-add, length-take-le, length-slice}
 use borrow.Author.Tests.{eqb-true}
-use Rattle.octets.specs.Read.{Reader, Read, got, le16, le32}
+use Rattle.octets.specs.Read.{Reader, le16, le32}
 use Rattle.octets.specs.Write.{le16Bytes, le32Bytes}
 use Rattle.octets.proofs.RoundTrip.{Reads, reads-le16, reads-le32}
 use Rattle.octets.proofs.Steps.{and-true}

@@ -3,7 +3,7 @@
 -- 509; 510 and 511 the FCS of what stands before.
 use Prim.Native.Nat.{ℕ, _+_, _*_, min}
 use mathlib.Core.List.{List, [], _∷_}
-use mathlib.Core.Bool.{Bool, true, false, _&&_}
+use mathlib.Core.Bool.{Bool, true, _&&_}
 use lib.ListN.{length, getD, take, drop}
 use lib.Seq.{slice}
 use lib.Dec.{eqb, leb, ltb}

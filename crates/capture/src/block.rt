@@ -1,4 +1,5 @@
-// Capture blocks (the scope document, "Capture blocks and the program").
+// Capture blocks (the scope document, "Capture blocks and the program"). In a block the number stands at 0, the count at 4; place k
+// begins at 6 + 132 * k, its length byte 4 further and its frame 5 further; the places end at 402, and the check stands at 510.
 ghost use mathlib.Core.Path.{_≡_};
 ghost use Prim.Native.Nat.{_<_, _≤_, min};
 ghost use lib.ListN.{length};

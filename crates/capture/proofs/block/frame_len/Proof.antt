@@ -1,8 +1,6 @@
 use Prim.Native.Nat.{_+_, _*_}
 use native.Mathlib.Omega.{arith}
 use Rattle.capture.proofs.BlockSteps.{count-small, count-whole}
-use Rattle.capture.specs.Block.{lengthAt}
-use borrow.Author.Needs.{needs}
 use Rattle.capture.proofs.block.frame_len.Statement.{statement}
 use Rattle.capture.proofs.block.frame_len.Tie as tie
 

@@ -1,7 +1,6 @@
-use mathlib.Core.Path.{_≡_, refl, sym, _∙_}
-use Prim.Native.Nat.{_≤_, _+_, _-_}
+use mathlib.Core.Path.{_≡_, refl, _∙_}
+use Prim.Native.Nat.{_≤_, _-_}
 use native.Mathlib.Omega.{arith}
-use lib.ListN.{length}
 use Rattle.capture.specs.Block.{zeroIn}
 use Rattle.capture.proofs.BlockSteps.{zero-turn, zero-not, zero-end}
 use borrow.Author.Needs.{needs}
