@@ -88,10 +88,9 @@ fn measure_sized(frame: &[u8], h: Headers, size: WordField) -> Expanded
     if total_of(size, n) < n {
         return Expanded::Refused(Refusal::BadPart);
     }
-    Expanded::Datagram {
-        len: n as usize,
-        elided: is_elided(udp),
-    }
+    let len = n as usize;
+    let elided = is_elided(udp);
+    Expanded::Datagram { len, elided }
 }
 
 // Writes the datagram whose headers were read.
@@ -105,15 +104,14 @@ fn expand_sized(frame: &[u8], h: Headers, size: WordField, out: &mut [u8]) -> Ex
     if total < n {
         return Expanded::Refused(Refusal::BadPart);
     }
-    if out.len() < n as usize {
+    let len = n as usize;
+    if out.len() < len {
         return Expanded::Refused(Refusal::NoRoom);
     }
     put_plain(out, frame, h, total - 40);
-    put_elided(out, size, udp, n as usize);
-    Expanded::Datagram {
-        len: n as usize,
-        elided: is_elided(udp),
-    }
+    put_elided(out, size, udp, len);
+    let elided = is_elided(udp);
+    Expanded::Datagram { len, elided }
 }
 
 // What `expand` would answer in room enough. The compressed header stands at the place c of the frame; `size` is the size

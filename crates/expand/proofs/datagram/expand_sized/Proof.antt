@@ -17,8 +17,8 @@ returns c =
     let e = sized-bad (a .size) (a .h) (now (a .frame)) _ _ (c .before .before .length-of .ensures .0) (c .before .total-of .ensures) (c .if1 .taken) in
     (rw e refl, rw e refl)
 
-cast-if2 : tie.Need-cast-if2
-cast-if2 c = search needs
+cast-len : tie.Need-cast-len
+cast-len c = search needs
 
 returns-2 : tie.Need-returns-2
 returns-2 c =
@@ -35,14 +35,8 @@ sub-put-plain c = search needs
 put-plain-requires : tie.Need-put-plain-requires
 put-plain-requires c κs = search needs
 
-cast-put-elided : tie.Need-cast-put-elided
-cast-put-elided c = search needs
-
 put-elided-requires : tie.Need-put-elided-requires
 put-elided-requires c κs = search needs
-
-cast-t11 : tie.Need-cast-t11
-cast-t11 c = search needs
 
 is-elided-requires : tie.Need-is-elided-requires
 is-elided-requires c κs = search needs
@@ -68,13 +62,11 @@ expand-sized-spec =
     length-of-requires
     total-of-requires
     returns
-    cast-if2
+    cast-len
     returns-2
     sub-put-plain
     put-plain-requires
-    cast-put-elided
     put-elided-requires
-    cast-t11
     is-elided-requires
     same-length
     returns-3)

@@ -16,8 +16,8 @@ returns c =
     let a = c .before .before .before .before .args in
     rw (sized-bad (a .size) (a .h) (now (a .frame)) _ _ (c .before .before .length-of .ensures .0) (c .before .total-of .ensures) (c .if1 .taken)) refl
 
-cast-t9 : tie.Need-cast-t9
-cast-t9 c = search needs
+cast-len : tie.Need-cast-len
+cast-len c = search needs
 
 is-elided-requires : tie.Need-is-elided-requires
 is-elided-requires c κs = search needs
@@ -30,4 +30,4 @@ returns-2 c =
 pub measure-sized-spec : {M : Type 1} → statement M
 measure-sized-spec =
     tie.close
-    (tie.spec length-of-requires total-of-requires returns cast-t9 is-elided-requires returns-2)
+    (tie.spec length-of-requires total-of-requires returns cast-len is-elided-requires returns-2)
