@@ -3,6 +3,7 @@
 // A place in a line is where its next field starts, and one past its length behind the last field. Each reader takes a place and answers
 // the field's value with the next place. Where the field is not of its kind, the next place is NONE: no field starts there, so
 // every later reader answers NONE too, and only the last place of a line has to be tested.
+ghost use Prim.Native.Nat.{_≤_};
 use check::same;
 use ieee802154::Address;
 use ieee802154::AddressField;
@@ -75,6 +76,23 @@ pub fn upto(s: &[u8], n: usize) -> &[u8] {
         return &s[0..n];
     }
     s
+}
+
+// So many bytes from a place on; none where there are fewer.
+pub fn part(s: &[u8], from: usize, n: usize) -> &[u8] {
+    if from <= s.len() {
+        if n <= s.len() - from {
+            return &s[from..from + n];
+        }
+    }
+    &s[0..0]
+}
+
+// The smaller of two numbers.
+pub fn least(a: usize, b: usize) -> usize
+    ensures { λ r. ⌜ r ≤ b ⌝ }
+{
+    if a < b { a } else { b }
 }
 
 // Whether a line's fields were all read, and each was of its kind.
@@ -367,47 +385,37 @@ fn pairs(s: &[u8], room: &mut [u8]) -> bool {
     worst < 16
 }
 
+// How many bytes a field from one place to another holds: '-' none, pairs of digits one each; NONE where it is neither.
+fn count(line: &[u8], from: usize, end: usize) -> usize {
+    if end <= from {
+        return NONE;
+    }
+    let n = end - from;
+    if n % 2 == 0 {
+        return n / 2;
+    }
+    if n == 1 {
+        if at(line, from) == b'-' {
+            return 0;
+        }
+    }
+    NONE
+}
+
 // A field from one place to another, of bytes in hexadecimal, '-' for none, put into the room. A space is no digit, so what ends
 // at the line's end and is all digits is one field.
 fn bytes_to(line: &[u8], from: usize, end: usize, room: &mut [u8]) -> BytesText {
-    if line.len() < end {
+    let n = count(line, from, end);
+    if room.len() < n {
         return BytesText {
             count: 0,
             next: NONE,
         };
     }
-    if end <= from {
+    if pairs(part(line, from, n * 2), &mut room[0..n]) {
         return BytesText {
-            count: 0,
-            next: NONE,
-        };
-    }
-    let n = end - from;
-    if n == 1 {
-        if line[from] == b'-' {
-            return BytesText {
-                count: 0,
-                next: end + 1,
-            };
-        }
-    }
-    if n % 2 != 0 {
-        return BytesText {
-            count: 0,
-            next: NONE,
-        };
-    }
-    if room.len() < n / 2 {
-        return BytesText {
-            count: 0,
-            next: NONE,
-        };
-    }
-    let count = n / 2;
-    if pairs(&line[from..end], &mut room[0..count]) {
-        return BytesText {
-            count,
-            next: end + 1,
+            count: n,
+            next: behind(line, end),
         };
     }
     BytesText {

@@ -2,7 +2,7 @@
 use super::answer;
 use super::fields;
 use super::room;
-use check::same;
+use super::room::Emitted;
 use ieee802154;
 use ieee802154::AddressField;
 use ieee802154::FrameType;
@@ -23,12 +23,8 @@ struct ReprText {
     next: usize,
 }
 
-pub fn dispatch(line: &[u8], from: usize, a: &mut [u8], out: &mut [u8], to: usize) -> usize {
-    let b = fields::last_bytes(line, from, a);
-    if !fields::ended(line, b.next) {
-        return answer::bad(out, to);
-    }
-    match SixlowpanPacket::dispatch(fields::upto(a, b.count)) {
+pub fn dispatch(bytes: &[u8], out: &mut [u8], to: usize) -> usize {
+    match SixlowpanPacket::dispatch(bytes) {
         DispatchAnswer::Is(p) => match p {
             SixlowpanPacket::FragmentHeader => print::text(out, to, b"ok frag"),
             SixlowpanPacket::IphcHeader => print::text(out, to, b"ok iphc"),
@@ -52,12 +48,8 @@ fn header(out: &mut [u8], to: usize, r: Repr, len: usize) -> usize {
     answer::byte(out, n, r.offset().0)
 }
 
-fn parse(line: &[u8], from: usize, a: &mut [u8], out: &mut [u8], to: usize) -> usize {
-    let b = fields::last_bytes(line, from, a);
-    if !fields::ended(line, b.next) {
-        return answer::bad(out, to);
-    }
-    match Repr::parse(fields::upto(a, b.count)) {
+pub fn parse(bytes: &[u8], out: &mut [u8], to: usize) -> usize {
+    match Repr::parse(bytes) {
         Parsed::Header(r, len) => header(out, to, r, len),
         Parsed::Refused(e) => answer::refused(out, to, e),
     }
@@ -90,16 +82,20 @@ fn repr(line: &[u8], from: usize) -> ReprText {
     }
 }
 
-fn emit(line: &[u8], from: usize, a: &mut [u8], out: &mut [u8], to: usize) -> usize {
+pub fn emit(line: &[u8], from: usize, a: &mut [u8]) -> Emitted {
     let t = repr(line, from);
     let r = t.value;
     let len = r.buffer_len();
     let n = room::made(line, t.next, len, a);
     if a.len() < n {
-        return answer::bad(out, to);
+        return Emitted::NOTHING;
     }
-    let w = r.emit(&mut a[0..n]);
-    room::written(out, to, len, w, fields::upto(a, n))
+    let written = r.emit(&mut a[0..n]);
+    Emitted {
+        len,
+        room: n,
+        written,
+    }
 }
 
 // A MAC header with these addresses. A key takes nothing else from it.
@@ -143,22 +139,4 @@ pub fn key(line: &[u8], from: usize, out: &mut [u8], to: usize) -> usize {
         KeyAnswer::Is(k) => put_key(out, to, k),
         KeyAnswer::Refused(e) => answer::refused(out, to, e),
     }
-}
-
-// The commands on fragment headers.
-pub fn answer(
-    name: &[u8],
-    line: &[u8],
-    from: usize,
-    a: &mut [u8],
-    out: &mut [u8],
-    to: usize,
-) -> usize {
-    if same(name, b"frag.parse") {
-        return parse(line, from, a, out, to);
-    }
-    if same(name, b"frag.emit") {
-        return emit(line, from, a, out, to);
-    }
-    answer::bad(out, to)
 }

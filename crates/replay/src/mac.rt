@@ -2,7 +2,7 @@
 use super::answer;
 use super::fields;
 use super::room;
-use check::same;
+use super::room::Emitted;
 use ieee802154::Address;
 use ieee802154::AddressAnswer;
 use ieee802154::AddressField;
@@ -61,12 +61,8 @@ fn header(out: &mut [u8], to: usize, r: Repr, len: usize) -> usize {
     addresses(out, n, r)
 }
 
-fn parse(line: &[u8], from: usize, a: &mut [u8], out: &mut [u8], to: usize) -> usize {
-    let b = fields::last_bytes(line, from, a);
-    if !fields::ended(line, b.next) {
-        return answer::bad(out, to);
-    }
-    match Repr::parse(fields::upto(a, b.count)) {
+pub fn parse(bytes: &[u8], out: &mut [u8], to: usize) -> usize {
+    match Repr::parse(bytes) {
         Parsed::Header(r, len) => header(out, to, r, len),
         Parsed::Refused(e) => answer::refused(out, to, e),
     }
@@ -108,24 +104,24 @@ fn repr(line: &[u8], from: usize) -> ReprText {
     }
 }
 
-fn emit(line: &[u8], from: usize, a: &mut [u8], out: &mut [u8], to: usize) -> usize {
+pub fn emit(line: &[u8], from: usize, a: &mut [u8]) -> Emitted {
     let t = repr(line, from);
     let r = t.value;
     let len = r.buffer_len();
     let n = room::made(line, t.next, len, a);
     if a.len() < n {
-        return answer::bad(out, to);
+        return Emitted::NOTHING;
     }
-    let w = r.emit(&mut a[0..n]);
-    room::written(out, to, len, w, fields::upto(a, n))
+    let written = r.emit(&mut a[0..n]);
+    Emitted {
+        len,
+        room: n,
+        written,
+    }
 }
 
-fn address_from(line: &[u8], from: usize, a: &mut [u8], out: &mut [u8], to: usize) -> usize {
-    let b = fields::last_bytes(line, from, a);
-    if !fields::ended(line, b.next) {
-        return answer::bad(out, to);
-    }
-    match Address::from_bytes(fields::upto(a, b.count)) {
+pub fn address(bytes: &[u8], out: &mut [u8], to: usize) -> usize {
+    match Address::from_bytes(bytes) {
         AddressAnswer::Is(x) => {
             let n = print::text(out, to, b"ok");
             answer::address(out, n, x)
@@ -134,16 +130,16 @@ fn address_from(line: &[u8], from: usize, a: &mut [u8], out: &mut [u8], to: usiz
     }
 }
 
-// The bytes of an address, in a room of its length.
-fn put_bytes(x: Address, a: &mut [u8], out: &mut [u8], to: usize) -> usize {
+// The bytes of an address, written into a room of its length.
+fn put_bytes(out: &mut [u8], to: usize, x: Address, room: &mut [u8]) -> usize {
     let len = x.len();
-    if a.len() < len {
+    if room.len() < len {
         return to;
     }
-    match x.emit_bytes(&mut a[0..len]) {
+    match x.emit_bytes(&mut room[0..len]) {
         Written::Bytes(n) => {
             let k = print::put(out, to, b' ');
-            answer::hex_bytes(out, k, fields::upto(a, n))
+            answer::hex_bytes(out, k, fields::upto(room, n))
         }
         Written::Refused(e) => answer::refused(out, to, e),
     }
@@ -163,16 +159,17 @@ fn put_link_local(out: &mut [u8], to: usize, x: Address) -> usize {
     }
 }
 
-fn put_info(x: Address, a: &mut [u8], out: &mut [u8], to: usize) -> usize {
+fn put_info(out: &mut [u8], to: usize, x: Address) -> usize {
     let mut n = print::text(out, to, b"ok");
     n = answer::flag(out, n, x.is_broadcast());
     n = answer::flag(out, n, x.is_unicast());
-    n = put_bytes(x, a, out, n);
+    let mut room = [0u8; 8];
+    n = put_bytes(out, n, x, &mut room);
     n = put_eui_64(out, n, x);
     put_link_local(out, n, x)
 }
 
-fn address_info(line: &[u8], from: usize, a: &mut [u8], out: &mut [u8], to: usize) -> usize {
+pub fn info(line: &[u8], from: usize, out: &mut [u8], to: usize) -> usize {
     let x = fields::link(line, from);
     if !fields::ended(line, x.next) {
         return answer::bad(out, to);
@@ -180,42 +177,6 @@ fn address_info(line: &[u8], from: usize, a: &mut [u8], out: &mut [u8], to: usiz
     let field = x.value;
     match field {
         AddressField::None => answer::bad(out, to),
-        AddressField::Some(v) => put_info(v, a, out, to),
+        AddressField::Some(v) => put_info(out, to, v),
     }
-}
-
-// The commands on addresses.
-pub fn address(
-    name: &[u8],
-    line: &[u8],
-    from: usize,
-    a: &mut [u8],
-    out: &mut [u8],
-    to: usize,
-) -> usize {
-    if same(name, b"addr.from") {
-        return address_from(line, from, a, out, to);
-    }
-    if same(name, b"addr.info") {
-        return address_info(line, from, a, out, to);
-    }
-    answer::bad(out, to)
-}
-
-// The commands on MAC headers.
-pub fn answer(
-    name: &[u8],
-    line: &[u8],
-    from: usize,
-    a: &mut [u8],
-    out: &mut [u8],
-    to: usize,
-) -> usize {
-    if same(name, b"mac.parse") {
-        return parse(line, from, a, out, to);
-    }
-    if same(name, b"mac.emit") {
-        return emit(line, from, a, out, to);
-    }
-    answer::bad(out, to)
 }

@@ -2,17 +2,17 @@
 // the protocol). A line that starts with `#` is answered by itself, one that is no command by `bad`, one that does not fit the
 // input by `bad long`.
 //
+// - `commands`: the commands by name. `mac`, `fragment`, `nhc`, `iphc`: what each does, by header.
 // - `fields`: the fields of a line. `answer`: the parts of an answer. `room`: what a writer writes into.
-// - `mac`, `fragment`, `nhc`, `compressed`: the commands, by header.
 mod answer;
-mod compressed;
+mod commands;
 mod fields;
 mod fragment;
+mod iphc;
 mod mac;
 mod nhc;
 mod room;
 
-use check::same;
 use text::line;
 use text::print;
 
@@ -33,42 +33,7 @@ struct Done {
     well: bool,
 }
 
-// A command, by the first byte of its name. Its fields start at `from`.
-fn command(
-    name: &[u8],
-    text: &[u8],
-    from: usize,
-    a: &mut [u8],
-    b: &mut [u8],
-    out: &mut [u8],
-    to: usize,
-) -> usize {
-    match fields::at(name, 0) {
-        b'm' => mac::answer(name, text, from, a, out, to),
-        b'i' => compressed::answer(name, text, from, a, b, out, to),
-        b'f' => fragment::answer(name, text, from, a, out, to),
-        b'u' => nhc::udp(name, text, from, a, out, to),
-        b'e' => nhc::ext(name, text, from, a, out, to),
-        b'a' => mac::address(name, text, from, a, out, to),
-        _ => named(name, text, from, a, out, to),
-    }
-}
-
-// The commands that are alone with their first byte.
-fn named(name: &[u8], text: &[u8], from: usize, a: &mut [u8], out: &mut [u8], to: usize) -> usize {
-    if same(name, b"key") {
-        return fragment::key(text, from, out, to);
-    }
-    if same(name, b"dispatch") {
-        return fragment::dispatch(text, from, a, out, to);
-    }
-    if same(name, b"nhc.dispatch") {
-        return nhc::dispatch(text, from, a, out, to);
-    }
-    answer::bad(out, to)
-}
-
-fn answered(text: &[u8], a: &mut [u8], b: &mut [u8], out: &mut [u8], to: usize) -> usize {
+fn answered(text: &[u8], a: &mut [u8], out: &mut [u8], to: usize) -> usize {
     if fields::at(text, 0) == b'#' {
         let n = print::text(out, to, text);
         return print::put(out, n, b'\n');
@@ -77,7 +42,7 @@ fn answered(text: &[u8], a: &mut [u8], b: &mut [u8], out: &mut [u8], to: usize) 
     if text.len() < end {
         return to;
     }
-    let n = command(&text[0..end], text, end + 1, a, b, out, to);
+    let n = commands::answer(&text[0..end], text, end + 1, a, out, to);
     print::put(out, n, b'\n')
 }
 
@@ -110,7 +75,7 @@ fn drained(d: Done, out: &[u8], len: usize) -> Done {
 }
 
 // Answers the line that ends at `end`, unless it is passed over.
-fn ended(input: &[u8], end: usize, d: Done, a: &mut [u8], b: &mut [u8], out: &mut [u8]) -> Done {
+fn ended(input: &[u8], end: usize, d: Done, a: &mut [u8], out: &mut [u8]) -> Done {
     let start = d.start;
     if input.len() <= end {
         return d;
@@ -128,7 +93,7 @@ fn ended(input: &[u8], end: usize, d: Done, a: &mut [u8], b: &mut [u8], out: &mu
         };
     }
     let e = drained(d, out, end - start);
-    let to = answered(&input[start..end], a, b, out, e.to);
+    let to = answered(&input[start..end], a, out, e.to);
     Done {
         start: next,
         skip: false,
@@ -138,14 +103,7 @@ fn ended(input: &[u8], end: usize, d: Done, a: &mut [u8], b: &mut [u8], out: &mu
 }
 
 // Answers the lines that end in the input. No line ends before `from`.
-fn lines(
-    input: &[u8],
-    from: usize,
-    skip: bool,
-    a: &mut [u8],
-    b: &mut [u8],
-    out: &mut [u8],
-) -> Done {
+fn lines(input: &[u8], from: usize, skip: bool, a: &mut [u8], out: &mut [u8]) -> Done {
     let mut d = Done {
         start: 0,
         skip,
@@ -154,21 +112,21 @@ fn lines(
     };
     let mut end = line::find(input, from, b'\n');
     while end < input.len() {
-        d = ended(input, end, d, a, b, out);
+        d = ended(input, end, d, a, out);
         end = line::find(input, end + 1, b'\n');
     }
     d
 }
 
 // The last line, if it has no end.
-fn last(input: &[u8], have: usize, skip: bool, a: &mut [u8], b: &mut [u8], out: &mut [u8]) -> Kept {
+fn last(input: &[u8], have: usize, skip: bool, a: &mut [u8], out: &mut [u8]) -> Kept {
     if skip {
         return stopped();
     }
     if have == 0 {
         return stopped();
     }
-    let n = answered(fields::upto(input, have), a, b, out, 0);
+    let n = answered(fields::upto(input, have), a, out, 0);
     io::write_all(1, fields::upto(out, n));
     stopped()
 }
@@ -229,7 +187,7 @@ fn rest(input: &mut [u8], all: usize, d: Done, out: &mut [u8]) -> Kept {
 }
 
 // Reads once and answers the lines that ended.
-fn turn(input: &mut [u8], a: &mut [u8], b: &mut [u8], out: &mut [u8], k: Kept) -> Kept {
+fn turn(input: &mut [u8], a: &mut [u8], out: &mut [u8], k: Kept) -> Kept {
     let have = k.have;
     let skip = k.skip;
     if input.len() <= have {
@@ -237,19 +195,19 @@ fn turn(input: &mut [u8], a: &mut [u8], b: &mut [u8], out: &mut [u8], k: Kept) -
     }
     let got = libc::read(0, &mut input[have..]);
     if got <= 0 {
-        return last(input, have, skip, a, b, out);
+        return last(input, have, skip, a, out);
     }
     let n = io::count(got, input);
     if input.len() - have < n {
         return stopped();
     }
     let all = have + n;
-    let d = lines(fields::upto(input, all), have, skip, a, b, out);
+    let d = lines(fields::upto(input, all), have, skip, a, out);
     rest(input, all, d, out)
 }
 
 // Nothing says that the input ends, so the turns are counted down from a number that no run uses up.
-fn run(input: &mut [u8], a: &mut [u8], b: &mut [u8], out: &mut [u8]) {
+fn run(input: &mut [u8], a: &mut [u8], out: &mut [u8]) {
     let mut k = Kept {
         have: 0,
         skip: false,
@@ -257,7 +215,7 @@ fn run(input: &mut [u8], a: &mut [u8], b: &mut [u8], out: &mut [u8]) {
     };
     let mut turns = u64::MAX;
     while 0 < turns {
-        k = turn(input, a, b, out, k);
+        k = turn(input, a, out, k);
         if !k.more {
             return;
         }
@@ -269,6 +227,5 @@ fn main() {
     let mut input = io::large_buffer();
     let mut out = io::large_buffer();
     let mut a = io::large_buffer();
-    let mut b = io::large_buffer();
-    run(&mut input, &mut a, &mut b, &mut out);
+    run(&mut input, &mut a, &mut out);
 }

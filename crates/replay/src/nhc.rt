@@ -2,7 +2,7 @@
 use super::answer;
 use super::fields;
 use super::room;
-use check::same;
+use super::room::Emitted;
 use sixlowpan::nhc::ExtHeaderId;
 use sixlowpan::nhc::ExtHeaderRepr;
 use sixlowpan::nhc::ExtParsed;
@@ -22,12 +22,8 @@ struct UdpText {
     next: usize,
 }
 
-pub fn dispatch(line: &[u8], from: usize, a: &mut [u8], out: &mut [u8], to: usize) -> usize {
-    let b = fields::last_bytes(line, from, a);
-    if !fields::ended(line, b.next) {
-        return answer::bad(out, to);
-    }
-    match NhcPacket::dispatch(fields::upto(a, b.count)) {
+pub fn dispatch(bytes: &[u8], out: &mut [u8], to: usize) -> usize {
+    match NhcPacket::dispatch(bytes) {
         NhcAnswer::Is(p) => match p {
             NhcPacket::ExtHeader => print::text(out, to, b"ok ext"),
             NhcPacket::UdpHeader => print::text(out, to, b"ok udp"),
@@ -47,12 +43,8 @@ fn ext_header(out: &mut [u8], to: usize, r: ExtHeaderRepr, len: usize) -> usize 
     answer::byte(out, n, id.protocol().0)
 }
 
-fn ext_parse(line: &[u8], from: usize, a: &mut [u8], out: &mut [u8], to: usize) -> usize {
-    let b = fields::last_bytes(line, from, a);
-    if !fields::ended(line, b.next) {
-        return answer::bad(out, to);
-    }
-    match ExtHeaderRepr::parse(fields::upto(a, b.count)) {
+pub fn ext_parse(bytes: &[u8], out: &mut [u8], to: usize) -> usize {
+    match ExtHeaderRepr::parse(bytes) {
         ExtParsed::Header(r, len) => ext_header(out, to, r, len),
         ExtParsed::Refused(e) => answer::refused(out, to, e),
     }
@@ -74,16 +66,20 @@ fn ext_repr(line: &[u8], from: usize) -> ExtText {
     }
 }
 
-fn ext_emit(line: &[u8], from: usize, a: &mut [u8], out: &mut [u8], to: usize) -> usize {
+pub fn ext_emit(line: &[u8], from: usize, a: &mut [u8]) -> Emitted {
     let t = ext_repr(line, from);
     let r = t.value;
     let len = r.buffer_len();
     let n = room::made(line, t.next, len, a);
     if a.len() < n {
-        return answer::bad(out, to);
+        return Emitted::NOTHING;
     }
-    let w = r.emit(&mut a[0..n]);
-    room::written(out, to, len, w, fields::upto(a, n))
+    let written = r.emit(&mut a[0..n]);
+    Emitted {
+        len,
+        room: n,
+        written,
+    }
 }
 
 fn udp_header(out: &mut [u8], to: usize, r: UdpNhcRepr, len: usize) -> usize {
@@ -94,12 +90,8 @@ fn udp_header(out: &mut [u8], to: usize, r: UdpNhcRepr, len: usize) -> usize {
     answer::optional_word(out, n, checksum)
 }
 
-fn udp_parse(line: &[u8], from: usize, a: &mut [u8], out: &mut [u8], to: usize) -> usize {
-    let b = fields::last_bytes(line, from, a);
-    if !fields::ended(line, b.next) {
-        return answer::bad(out, to);
-    }
-    match UdpNhcRepr::parse(fields::upto(a, b.count)) {
+pub fn udp_parse(bytes: &[u8], out: &mut [u8], to: usize) -> usize {
+    match UdpNhcRepr::parse(bytes) {
         UdpParsed::Header(r, len) => udp_header(out, to, r, len),
         UdpParsed::Refused(e) => answer::refused(out, to, e),
     }
@@ -121,50 +113,18 @@ fn udp_repr(line: &[u8], from: usize) -> UdpText {
     }
 }
 
-fn udp_emit(line: &[u8], from: usize, a: &mut [u8], out: &mut [u8], to: usize) -> usize {
+pub fn udp_emit(line: &[u8], from: usize, a: &mut [u8]) -> Emitted {
     let t = udp_repr(line, from);
     let r = t.value;
     let len = r.buffer_len();
     let n = room::made(line, t.next, len, a);
     if a.len() < n {
-        return answer::bad(out, to);
+        return Emitted::NOTHING;
     }
-    let w = r.emit(&mut a[0..n]);
-    room::written(out, to, len, w, fields::upto(a, n))
-}
-
-// The commands on compressed extension headers.
-pub fn ext(
-    name: &[u8],
-    line: &[u8],
-    from: usize,
-    a: &mut [u8],
-    out: &mut [u8],
-    to: usize,
-) -> usize {
-    if same(name, b"ext.parse") {
-        return ext_parse(line, from, a, out, to);
+    let written = r.emit(&mut a[0..n]);
+    Emitted {
+        len,
+        room: n,
+        written,
     }
-    if same(name, b"ext.emit") {
-        return ext_emit(line, from, a, out, to);
-    }
-    answer::bad(out, to)
-}
-
-// The commands on compressed UDP headers.
-pub fn udp(
-    name: &[u8],
-    line: &[u8],
-    from: usize,
-    a: &mut [u8],
-    out: &mut [u8],
-    to: usize,
-) -> usize {
-    if same(name, b"udp.parse") {
-        return udp_parse(line, from, a, out, to);
-    }
-    if same(name, b"udp.emit") {
-        return udp_emit(line, from, a, out, to);
-    }
-    answer::bad(out, to)
 }

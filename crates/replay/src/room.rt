@@ -5,10 +5,25 @@ use octets::write::Written;
 use text::print;
 
 // The largest room.
-pub const MOST: usize = 512;
+const MOST: usize = 512;
 
 // What stands in a room before a writer runs.
 const FILL: u8 = 0xa5;
+
+// What a writer did: the length that it announced, the room that it was lent, NONE where the line is no command, and its answer.
+pub struct Emitted {
+    pub len: usize,
+    pub room: usize,
+    pub written: Written,
+}
+
+impl Emitted {
+    pub const NOTHING: Emitted = Emitted {
+        len: 0,
+        room: fields::NONE,
+        written: Written::Bytes(0),
+    };
+}
 
 // The value of one to three decimal digits, from a place to the line's end; NONE where they are none.
 fn decimal(line: &[u8], from: usize) -> usize {
@@ -108,14 +123,15 @@ fn put_room(out: &mut [u8], to: usize, room: &[u8]) -> usize {
 
 // A writer's answer. One that wrote another length than it announced, or wrote and refused, has a longer line, which the
 // comparison sees.
-pub fn written(out: &mut [u8], to: usize, len: usize, w: Written, room: &[u8]) -> usize {
-    match w {
+pub fn put_emitted(out: &mut [u8], to: usize, e: Emitted, room: &[u8]) -> usize {
+    let written = e.written;
+    match written {
         Written::Bytes(n) => {
-            let k = wrote(out, to, len, n);
+            let k = wrote(out, to, e.len, n);
             put_room(out, k, room)
         }
-        Written::Refused(e) => {
-            let k = answer::refused(out, to, e);
+        Written::Refused(no) => {
+            let k = answer::refused(out, to, no);
             if is_filled(room) {
                 return k;
             }

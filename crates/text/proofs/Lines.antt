@@ -1,12 +1,14 @@
 -- Where a byte stands first, and an unfinished line moved to the front.
 use Prim.Native.Nat.{ℕ, zero, suc, _+_, _≤_, _<_}
-use native.Mathlib.Nat.{add-comm}
+use native.Mathlib.Nat.{zero-add}
 use native.Mathlib.Numerals.{add-one}
 use native.Mathlib.Omega.{arith}
 use mathlib.Core.List.{List, [], _∷_}
 use mathlib.Core.Path.{_≡_, refl, sym, ap, _∙_}
-use lib.ListN.{length, getD, set, drop, drop-of-length-le}
-use lib.Seq.{drop-cons, drop-drop, drop-set-lt, getD-drop}
+use mathlib.Core.Bool.{Bool, true, false}
+use lib.Dec.{eqb}
+use lib.ListN.{length, getD, set, take, drop, drop-of-length-le, length-drop}
+use lib.Seq.{drop-cons, drop-drop, drop-set-lt, getD-drop, length-take-le}
 use borrow.Author.Tests.{eq-eqb, ne-eqb}
 use Rattle.octets.specs.Write.{put}
 use Rattle.bytes.specs.Bytes.{indexOf, indexAfter}
@@ -49,3 +51,25 @@ tail-step was s i g e =
 pub move-done : (was s : List ℕ) (i j : ℕ) → length was ≤ j → put i (drop j was) s ≡ s
 unfolding put
 move-done was s i j h = ap (λ l. put i l s) (drop-of-length-le was h)
+
+-- ---- a part that holds no b: the search goes on behind it
+after : (t : Bool) (p q k m : ℕ) → (p ≡ m → q ≡ m + k) → indexAfter t p ≡ suc m → indexAfter t q ≡ suc m + k
+unfolding indexAfter
+after true p q k m f e = omega (arith, e)
+after false p q k m f e =
+    let h : p ≡ m = omega (arith, e) in
+    let g : q ≡ m + k = f h in
+    omega arith
+
+pub behind : (b n : ℕ) (l : List ℕ) → indexOf b (take n l) ≡ length (take n l) → indexOf b l ≡ length (take n l) + indexOf b (drop n l)
+unfolding indexOf
+behind b zero l e = sym (zero-add (indexOf b l))
+behind b (suc n) [] e = refl
+behind b (suc n) (x ∷ l) e = after (eqb x b) (indexOf b (take n l)) (indexOf b l) (indexOf b (drop n l)) (length (take n l)) (behind b n l) e
+
+-- the same for n bytes of a slice, from a place on
+pub goes-on : (b i n : ℕ) (s : List ℕ) → i + n ≤ length s → indexOf b (take n (drop i s)) ≡ length (take n (drop i s)) → i + n + indexOf b (drop (i + n) s) ≡ i + indexOf b (drop i s)
+goes-on b i n s h e =
+    let l : length (take n (drop i s)) ≡ n = length-take-le n (drop i s) (omega (arith, length-drop i s)) in
+    let d : indexOf b (drop n (drop i s)) ≡ indexOf b (drop (i + n) s) = ap (indexOf b) (drop-drop n i s) in
+    omega (arith, behind b n (drop i s) e)

@@ -6,10 +6,10 @@ use Rattle.replay.proofs.lines.Statement.{statement}
 use Rattle.replay.proofs.lines.Tie as tie
 
 abbrev Inv-loop : tie.InvT-loop
-Inv-loop input from skip a₀ b₀ out₀ d₀ end₀ a b out d end = (length a ≡ length a₀) × (length b ≡ length b₀) × (length out ≡ length out₀)
+Inv-loop input from skip a₀ out₀ d₀ end₀ a out d end = (length a ≡ length a₀) × (length out ≡ length out₀)
 
 abbrev μ-loop : tie.MeasureT-loop
-μ-loop input from skip a₀ b₀ out₀ d₀ end₀ a b out d end = length input - end
+μ-loop input from skip a₀ out₀ d₀ end₀ a out d end = length input - end
 
 find-requires : tie.Need-find-requires Inv-loop μ-loop
 find-requires c κs = search needs
@@ -38,9 +38,6 @@ same-length c = search needs
 same-length-2 : tie.Need-same-length-2 Inv-loop μ-loop
 same-length-2 c = search needs
 
-same-length-3 : tie.Need-same-length-3 Inv-loop μ-loop
-same-length-3 c = search needs
-
 returns : tie.Need-returns Inv-loop μ-loop
 returns c = search needs
 
@@ -59,5 +56,4 @@ lines-spec =
     loop-again
     same-length
     same-length-2
-    same-length-3
     returns)

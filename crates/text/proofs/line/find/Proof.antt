@@ -1,6 +1,6 @@
 use Prim.Native.Nat.{_+_, _-_}
 use native.Mathlib.Omega.{arith}
-use mathlib.Core.Path.{_≡_, refl, sym, _∙_}
+use mathlib.Core.Path.{_≡_, sym, _∙_}
 use lib.ListN.{length, drop}
 use Rattle.bytes.specs.Bytes.{indexOf}
 use Rattle.text.proofs.Lines.{found, passed, none-left}
@@ -14,15 +14,18 @@ Inv-loop s from b i₀ i = i + indexOf b (drop i s) ≡ from + indexOf b (drop f
 abbrev μ-loop : tie.MeasureT-loop
 μ-loop s from b i₀ i = length s - i
 
+near-requires : tie.Need-near-requires Inv-loop μ-loop
+near-requires c κs = search needs
+
 loop-holds : tie.Need-loop-holds Inv-loop μ-loop
-loop-holds c = refl
+loop-holds c = c .near .ensures
 
 shared-slice-read-if1 : tie.Need-shared-slice-read-if1 Inv-loop μ-loop
 shared-slice-read-if1 c = search needs
 
 returns : tie.Need-returns Inv-loop μ-loop
 returns c =
-    let a = c .before .before .before .before .args in
+    let a = c .before .before .before .before .before .before .args in
     let l = c .before .before .before .loop in
     sym (found (a .b) (a .s .now) (l .i) (omega arith) (c .if1 .taken)) ∙ l .inv
 
@@ -34,13 +37,13 @@ loop-less c = search needs
 
 loop-again : tie.Need-loop-again Inv-loop μ-loop
 loop-again c =
-    let a = c .before .before .before .before .args in
+    let a = c .before .before .before .before .before .before .args in
     let l = c .before .before .before .loop in
     sym (passed (a .b) (a .s .now) (l .i) (omega arith) (c .if1 .left)) ∙ l .inv
 
 returns-2 : tie.Need-returns-2 Inv-loop μ-loop
 returns-2 c =
-    let a = c .before .before .args in
+    let a = c .before .before .before .before .args in
     let l = c .before .loop in
     sym (none-left (a .b) (a .s .now) (l .i) (omega arith)) ∙ l .inv
 
@@ -50,6 +53,7 @@ find-spec =
     (tie.spec
     Inv-loop
     μ-loop
+    near-requires
     loop-holds
     shared-slice-read-if1
     returns

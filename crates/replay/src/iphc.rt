@@ -2,7 +2,7 @@
 use super::answer;
 use super::fields;
 use super::room;
-use check::same;
+use super::room::Emitted;
 use ieee802154::AddressField;
 use iphc::Parsed;
 use iphc::Repr;
@@ -55,18 +55,41 @@ fn parsed(
     }
 }
 
-fn parse(line: &[u8], from: usize, a: &mut [u8], b: &mut [u8], out: &mut [u8], to: usize) -> usize {
+// The fields of iphc.parse: how many bytes of the room are the header's, and how many behind them the contexts'.
+struct Query {
+    bytes: usize,
+    src: AddressField,
+    dst: AddressField,
+    contexts: usize,
+    next: usize,
+}
+
+fn ask(line: &[u8], from: usize, a: &mut [u8]) -> Query {
     let bytes = fields::bytes(line, from, a);
-    let src = fields::link(line, bytes.next);
-    let dst = fields::link(line, src.next);
-    let contexts = fields::last_bytes(line, dst.next, b);
-    if !fields::ended(line, contexts.next) {
+    let ll_src = fields::link(line, bytes.next);
+    let ll_dst = fields::link(line, ll_src.next);
+    let src = ll_src.value;
+    let dst = ll_dst.value;
+    let n = fields::least(bytes.count, a.len());
+    let contexts = fields::last_bytes(line, ll_dst.next, &mut a[n..]);
+    Query {
+        bytes: n,
+        src,
+        dst,
+        contexts: contexts.count,
+        next: contexts.next,
+    }
+}
+
+pub fn parse(line: &[u8], from: usize, a: &mut [u8], out: &mut [u8], to: usize) -> usize {
+    let q = ask(line, from, a);
+    if !fields::ended(line, q.next) {
         return answer::bad(out, to);
     }
-    let ll_src = src.value;
-    let ll_dst = dst.value;
-    let flat = fields::upto(b, contexts.count);
-    parsed(fields::upto(a, bytes.count), ll_src, ll_dst, flat, out, to)
+    let src = q.src;
+    let dst = q.dst;
+    let contexts = fields::part(a, q.bytes, q.contexts);
+    parsed(fields::upto(a, q.bytes), src, dst, contexts, out, to)
 }
 
 fn repr(line: &[u8], from: usize) -> ReprText {
@@ -104,33 +127,18 @@ fn repr(line: &[u8], from: usize) -> ReprText {
     }
 }
 
-fn emit(line: &[u8], from: usize, a: &mut [u8], out: &mut [u8], to: usize) -> usize {
+pub fn emit(line: &[u8], from: usize, a: &mut [u8]) -> Emitted {
     let t = repr(line, from);
     let r = t.value;
     let len = r.buffer_len();
     let n = room::made(line, t.next, len, a);
     if a.len() < n {
-        return answer::bad(out, to);
+        return Emitted::NOTHING;
     }
-    let w = r.emit(&mut a[0..n]);
-    room::written(out, to, len, w, fields::upto(a, n))
-}
-
-// The commands on compressed IPv6 headers.
-pub fn answer(
-    name: &[u8],
-    line: &[u8],
-    from: usize,
-    a: &mut [u8],
-    b: &mut [u8],
-    out: &mut [u8],
-    to: usize,
-) -> usize {
-    if same(name, b"iphc.parse") {
-        return parse(line, from, a, b, out, to);
+    let written = r.emit(&mut a[0..n]);
+    Emitted {
+        len,
+        room: n,
+        written,
     }
-    if same(name, b"iphc.emit") {
-        return emit(line, from, a, out, to);
-    }
-    answer::bad(out, to)
 }
