@@ -1,8 +1,8 @@
 // The commands, by name.
 use super::answer;
+use super::compressed;
 use super::fields;
 use super::fragment;
-use super::iphc;
 use super::mac;
 use super::nhc;
 use super::room;
@@ -144,7 +144,7 @@ fn emit(c: Command, line: &[u8], from: usize, a: &mut [u8]) -> Emitted {
         Command::FragEmit => fragment::emit(line, from, a),
         Command::UdpEmit => nhc::udp_emit(line, from, a),
         Command::ExtEmit => nhc::ext_emit(line, from, a),
-        Command::IphcEmit => iphc::emit(line, from, a),
+        Command::IphcEmit => compressed::emit(line, from, a),
         _ => Emitted::NOTHING,
     }
 }
@@ -189,7 +189,7 @@ pub fn answer(
         return emit_line(c, line, from, a, out, to);
     }
     match c {
-        Command::IphcParse => iphc::parse(line, from, a, out, to),
+        Command::IphcParse => compressed::parse(line, from, a, out, to),
         Command::AddrInfo => mac::info(line, from, out, to),
         Command::Key => fragment::key(line, from, out, to),
         _ => read_line(c, line, from, a, out, to),

@@ -2,13 +2,13 @@
 // the protocol). A line that starts with `#` is answered by itself, one that is no command by `bad`, one that does not fit the
 // input by `bad long`.
 //
-// - `commands`: the commands by name. `mac`, `fragment`, `nhc`, `iphc`: what each does, by header.
+// - `commands`: the commands by name. `mac`, `fragment`, `nhc`, `compressed`: what each does, by header.
 // - `fields`: the fields of a line. `answer`: the parts of an answer. `room`: what a writer writes into.
 mod answer;
 mod commands;
+mod compressed;
 mod fields;
 mod fragment;
-mod iphc;
 mod mac;
 mod nhc;
 mod room;
