@@ -10,6 +10,7 @@ use Rattle.ieee802154.specs.Control.{wordOf, supported, hasSequence, has
 use Rattle.ieee802154.specs.Addressing.{panField, addressField, side, sides, addressing}
 use Rattle.ieee802154.specs.Security.{auxiliary}
 use Rattle.ieee802154.specs.Mac.{sequenceOf, reprOf, headerRest, header, mac, frontBytes, sourceBytes, backBytes, bytesOf}
+use Rattle.ieee802154.specs.RoundTrips.{pansStand, roundTrips}
 use Rattle.ieee802154.specs.declared.addr.Address.the-variants.{Short}
 use Rattle.ieee802154.specs.declared.addr.PanField.{PanField}
 use Rattle.ieee802154.specs.declared.addr.AddressField.{AddressField}
@@ -38,3 +39,8 @@ k11-header =
 pub k11 : (mac k11-bytes ≡ got k11-header 9) × (bytesOf k11-header ≡ k11-bytes)
 unfolding mac header byte le16 headerRest supported addressing hasAddressing sides side carried carried01 panField addressField auxiliary reprOf sequenceOf hasSequence bytesOf frontBytes backBytes sourceBytes wordOf byteBytes le16Bytes
 k11 = (refl, refl)
+
+-- it is one of those that read back
+pub k11-reads-back : roundTrips k11-header ≡ true
+unfolding roundTrips pansStand supported hasAddressing carried carried01
+k11-reads-back = refl

@@ -1,18 +1,18 @@
 -- How long a header is. Its length is the sum of the widths of its fields, which the bytes read say, and it ends within the frame.
-use Prim.Native.Nat.{ℕ, _+_, _*_, _≤_, _<_}
+use Prim.Native.Nat.{ℕ, _+_, _*_, _≤_}
 use native.Mathlib.Omega.{arith}
 use mathlib.Core.List.{List}
 use mathlib.Core.Bool.{Bool, true, false}
 use mathlib.Core.Path.{_≡_, refl, sym, ap, subst, _∙_}
 use lib.ListN.{length, getD}
 use lib.Dec.{eqb, ltb}
-use Rattle.octets.specs.Read.{Answer, is, refused, Placed, Read, Reader, got, andThen, choose, branch, _>>=_, give, refuse, byte, le16, le64, skip}
+use Rattle.octets.specs.Read.{is, refused, Placed, Read, Reader, got, andThen, choose, branch, _>>=_, give, refuse, byte, le16, le64, skip}
 use Rattle.octets.proofs.Spans.{Spans, not-refused, spans-give, spans-refuse, spans-then, spans-branch, spans-byte, spans-skip, spans-le16, spans-le64}
 use Rattle.ieee802154.specs.Control.{controlOf, supported, hasAddressing, carried}
-use Rattle.ieee802154.specs.Addressing.{panField, addressField, side, sides, noSide, addressing}
+use Rattle.ieee802154.specs.Addressing.{panField, addressField, side, sides, addressing}
 use Rattle.ieee802154.specs.Security.{auxiliaryLength, auxiliary}
 use Rattle.ieee802154.specs.Mac.{reprOf, headerRest, header, mac}
-use Rattle.ieee802154.specs.declared.addr.Address.the-variants.{Absent, Short, Extended}
+use Rattle.ieee802154.specs.declared.addr.Address.the-variants.{Short, Extended}
 use Rattle.ieee802154.specs.declared.addr.PanField.{PanField}
 use Rattle.ieee802154.specs.declared.addr.AddressField.{AddressField}
 use Rattle.ieee802154.specs.declared.control.AddressingMode.{AddressingMode}
@@ -66,7 +66,7 @@ spans-address m =
     long : Reader AddressField
     long = _>>=_ le64 (λ x. give (AddressField.Some (Extended x)))
 
-spans-side : (t : Bool) (m : AddressingMode) → Spans (side t m) (panWidth t + (addressWidth m + 0))
+pub spans-side : (t : Bool) (m : AddressingMode) → Spans (side t m) (panWidth t + (addressWidth m + 0))
 unfolding side
 spans-side t m =
     spans-then (panField t) (λ p. _>>=_ (addressField m) (λ a. give _)) (panWidth t) (addressWidth m + 0) (spans-pan t)
@@ -169,22 +169,22 @@ header-in s h n e =
     subst (λ w. HeaderIn (controlOf w) s h n) (p .0) (rest-in (controlOf (x .part)) (y .part) s h n (omega arith) (rw d at (y .rest)))
 
 -- ---- the length
-auxiliary-go : (t : Bool) (s : List ℕ) (at n : ℕ) → at ≤ length s → auxiliary t s at ≡ got tt n → (n ≡ at + auxiliaryWidth t s at) × (n ≤ length s)
+pub auxiliary-length : (t : Bool) (s : List ℕ) (at n : ℕ) → at ≤ length s → auxiliary t s at ≡ got tt n → (n ≡ at + auxiliaryWidth t s at) × (n ≤ length s)
 unfolding auxiliary
-auxiliary-go true s at n h e =
+auxiliary-length true s at n h e =
     let x = split byte (λ b. skip (auxiliaryLength b)) s at tt n e in
     let p = byte-at s at (x .part) (x .after) (x .first) in
     let v = spans-byte s at (x .part) (x .after) h (x .first) in
     let w = spans-skip (auxiliaryLength (x .part)) s (x .after) tt n (v .1) (x .rest) in
     let g : auxiliaryLength (x .part) ≡ auxiliaryLength (getD s at 0) = ap (λ b. auxiliaryLength b) (p .0) in
     omega arith
-auxiliary-go false s at n h e = spans-give tt s at tt n h e
+auxiliary-length false s at n h e = spans-give tt s at tt n h e
 
 -- the length that `parse` answers: the sum of the widths, and not past the end
 pub header-length : (s : List ℕ) (h : Repr) (n : ℕ) → header s 0 ≡ got h n → (n ≡ headerLength s) × (n ≤ length s)
 header-length s h n e =
     let x = header-in s h n e in
-    auxiliary-go (controlIn s .«security_enabled») s (3 + addressingWidth (controlIn s)) n (x .fields-within) (x .auxiliary-read)
+    auxiliary-length (controlIn s .«security_enabled») s (3 + addressingWidth (controlIn s)) n (x .fields-within) (x .auxiliary-read)
 
 mac-go : (s : List ℕ) (h : Repr) (n : ℕ) (t u : Bool) → choose t (refused 1) (choose u (refused 4) (header s 0)) ≡ got h n → header s 0 ≡ got h n
 mac-go s h n true u e = not-refused _ 1 e

@@ -5,3 +5,4 @@ pub mod Lengths
 pub mod HeaderSteps
 pub mod Examples
 pub mod RoundTrips
+pub mod Exact

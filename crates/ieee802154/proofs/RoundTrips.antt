@@ -1,18 +1,21 @@
 -- Written, then read: exactly the headers that `roundTrips` admits come back as they were, with just the bytes written, wherever these stand
 -- and whatever follows.
-use Prim.Native.Nat.{ℕ, _+_, _*_, _/_, _%_, _^_, _≤_, _<_}
+use Prim.Native.Nat.{ℕ, _+_, _/_, _%_, _≤_, _<_}
 use native.Mathlib.Nat.{zero-add}
 use native.Mathlib.Omega.{arith}
-use mathlib.Core.List.{List, [], _∷_, _++_, append-assoc}
+use mathlib.Core.List.{List, [], _++_, append-assoc}
 use mathlib.Core.Bool.{Bool, true, false, not, _&&_}
 use mathlib.Core.Path.{_≡_, refl, sym, ap, subst, _∙_}
-use lib.ListN.{length, getD, drop, length-append, length-drop}
-use lib.Dec.{eqb, ltb, leb}
+use lib.ListN.{length, drop, length-append, length-drop}
+use lib.Dec.{eqb, ltb}
 use borrow.Author.Tests.{ltb-true, lt-ltb, le-ltb, eqb-true, eq-eqb, ne-eqb, not-true, le-leb}
-use Rattle.octets.specs.Read.{Reader, got, choose, branch, give, refuse, _>>=_, byte, le16, le64}
-use Rattle.octets.specs.Write.{over, byteBytes, le16Bytes, le64Bytes}
+use Rattle.octets.specs.Read.{is, refused, Reader, got, choose, branch, give, refuse, _>>=_, byte, le16, le64}
+use Rattle.octets.specs.Write.{over, byteBytes, be16Bytes, be32Bytes, be64Bytes, le16Bytes, le64Bytes}
 use Rattle.octets.specs.declared.field.ByteField.{ByteField}
-use Rattle.octets.proofs.RoundTrip.{Reads, reads-then, reads-map, reads-give, reads-byte, reads-le16, reads-le64, emit-then-read}
+use Rattle.octets.proofs.Steps.{and-true}
+use Rattle.octets.proofs.RoundTrip.{Reads, reads-then, reads-map, reads-give, reads-byte, reads-be16, reads-be64, reads-le16, reads-le64}
+use Rattle.ieee802154.specs.Address.{isPresent, fromBytes, addressBytes}
+use Rattle.ieee802154.specs.declared.addr.Address.{Address}
 use Rattle.ieee802154.specs.Control.{bit, bitOf, controlOf, wordOf, supported, hasSequence, hasAddressing, pans, carried01, carried2, carried}
 use Rattle.ieee802154.specs.Addressing.{panField, addressField, side, sides, addressing, panOr, modeOf, fieldLength, fieldBytes}
 use Rattle.ieee802154.specs.Security.{auxiliary}
@@ -21,7 +24,6 @@ use Rattle.ieee802154.specs.RoundTrips.{hasByte, hasPan, hasAddress, sam
 use Rattle.ieee802154.specs.declared.addr.Address.the-variants.{Absent, Short, Extended}
 use Rattle.ieee802154.specs.declared.addr.PanField.{PanField}
 use Rattle.ieee802154.specs.declared.addr.AddressField.{AddressField}
-use Rattle.ieee802154.specs.declared.control.AddressingMode.{AddressingMode}
 use Rattle.ieee802154.specs.declared.control.Control.{Control}
 use Rattle.ieee802154.specs.declared.control.Carried.{Carried}
 use Rattle.ieee802154.specs.declared.addressing.Side.{Side}
@@ -29,12 +31,16 @@ use Rattle.ieee802154.specs.declared.addressing.Addressing.{Addressing}
 use Rattle.ieee802154.specs.declared.header.Repr.{Repr}
 use Rattle.ieee802154.proofs.WriteSteps.{length-bytes}
 
--- ---- tests
-both : (t u : Bool) → (t && u) ≡ true → (t ≡ true) × (u ≡ true)
-both true u e = (refl, e)
-both false u e = (e, cc)
+-- ---- an address as bytes
+-- a present one comes back; of an absent one there are no bytes, which are refused, 4
+pub address-back : (a : Address) → fromBytes (addressBytes a) ≡ choose (isPresent a) (is a) (refused 4)
+unfolding fromBytes be64Bytes be32Bytes be16Bytes
+address-back Absent = refl
+address-back (Short x) = rw (reads-be16 x [] [] 0 refl)
+address-back (Extended x) = rw (reads-be64 x [] [] 0 refl)
 
-same-is : (t u : Bool) → same t u ≡ true → t ≡ u
+-- ---- tests
+pub same-is : (t u : Bool) → same t u ≡ true → t ≡ u
 same-is true u e = sym e
 same-is false u e = sym (not-true u e)
 
@@ -83,7 +89,7 @@ module _ (k : Control) where
   unfolding wordOf
   word-src = omega (arith, bits)
 
-abbrev masked : Control → Control
+abbrev pub masked : Control → Control
 masked k =
     record {
       «frame_type» = record { 0 = k .«frame_type» .0 % 8 };
@@ -105,14 +111,14 @@ mode-small (AddressField.Some Absent) = refl
 mode-small (AddressField.Some (Short x)) = refl
 mode-small (AddressField.Some (Extended x)) = refl
 
-control-same : (h : Repr) → h .«frame_type» .0 < 8 → h .«frame_version» .0 < 4 → controlOf (wordOf (controlFor h)) ≡ controlFor h
-control-same h t v =
+pub masked-same : (h : Repr) → h .«frame_type» .0 < 8 → h .«frame_version» .0 < 4 → masked (controlFor h) ≡ controlFor h
+masked-same h t v =
     let e : h .«frame_type» .0 % 8 ≡ h .«frame_type» .0 = omega arith in
     let f : h .«frame_version» .0 % 4 ≡ h .«frame_version» .0 = omega arith in
-    control-back (controlFor h) ∙ rw (e, f, mode-small (h .«dst_addr»), mode-small (h .«src_addr»))
+    rw (e, f, mode-small (h .«dst_addr»), mode-small (h .«src_addr»))
 
 -- ---- the addressing fields
-abbrev panBytes : PanField → List ℕ
+abbrev pub panBytes : PanField → List ℕ
 panBytes PanField.None = []
 panBytes (PanField.Some x) = le16Bytes (x .0)
 
@@ -128,10 +134,10 @@ reads-address (AddressField.Some Absent) h = reads-give (AddressField.Some Absen
 reads-address (AddressField.Some (Short x)) h = reads-map le16 (λ n. AddressField.Some (Short n)) (le16Bytes x) x (reads-le16 x)
 reads-address (AddressField.Some (Extended x)) h = reads-map le64 (λ n. AddressField.Some (Extended n)) (le64Bytes x) x (reads-le64 x)
 
-abbrev sideOf : PanField → AddressField → Side
+abbrev pub sideOf : PanField → AddressField → Side
 sideOf p a = record { pan = p; addr = a }
 
-abbrev sidesOf : Side → Side → Addressing
+abbrev pub sidesOf : Side → Side → Addressing
 sidesOf a b = record { dst = a; src = b }
 
 reads-side : (p : PanField) (a : AddressField) → hasAddress a ≡ true → Reads (side (hasPan p) (record { 0 = modeOf a })) (panBytes p ++ fieldBytes a) (sideOf p a)
@@ -141,7 +147,7 @@ reads-side p a h =
     (reads-map (addressField (record { 0 = modeOf a })) (λ b. sideOf p b) (fieldBytes a) a (reads-address a h))
 
 -- what is written of the addressing fields
-abbrev writtenFields : Bool → PanField → AddressField → PanField → AddressField → List ℕ
+abbrev pub writtenFields : Bool → PanField → AddressField → PanField → AddressField → List ℕ
 writtenFields c dp da sp sa = le16Bytes (panOr dp) ++ (fieldBytes da ++ choose c (fieldBytes sa) (le16Bytes (panOr sp) ++ fieldBytes sa))
 
 -- it is what the reader looks for
@@ -184,22 +190,22 @@ no-bytes (AddressField.Some (Short x)) h = absurd (omega arith)
 no-bytes (AddressField.Some (Extended x)) h = absurd (omega arith)
 
 -- ---- the domain, test by test
-record PansStand (c : Bool) (p : Carried) (d s : PanField) : Type 0 where
-  are-carried : p ≡ pans (hasPan d) (hasPan s)
-  are-counted : bitOf (hasPan d) + bitOf (hasPan s) ≡ choose c 1 2
-  source-zero : hasPan d ≡ false → panOr s ≡ 0
+pub record PansStand (c : Bool) (p : Carried) (d s : PanField) : Type 0 where
+  pub are-carried : p ≡ pans (hasPan d) (hasPan s)
+  pub are-counted : bitOf (hasPan d) + bitOf (hasPan s) ≡ choose c 1 2
+  pub source-zero : hasPan d ≡ false → panOr s ≡ 0
 
-record Domain (h : Repr) : Type 0 where
-  unsecured : h .«security_enabled» ≡ false
-  version : h .«frame_version» .0 < 4
-  is-supported : supported (controlFor h) ≡ true
-  is-addressed : hasAddressing (controlFor h) ≡ true
-  sequence : hasByte (h .«sequence_number») ≡ true
-  dst : hasAddress (h .«dst_addr») ≡ true
-  src : hasAddress (h .«src_addr») ≡ true
-  pans-stand : PansStand (h .«pan_id_compression») (carried (controlFor h)) (h .«dst_pan_id») (h .«src_pan_id»)
+pub record Domain (h : Repr) : Type 0 where
+  pub unsecured : h .«security_enabled» ≡ false
+  pub version : h .«frame_version» .0 < 4
+  pub is-supported : supported (controlFor h) ≡ true
+  pub is-addressed : hasAddressing (controlFor h) ≡ true
+  pub sequence : hasByte (h .«sequence_number») ≡ true
+  pub dst : hasAddress (h .«dst_addr») ≡ true
+  pub src : hasAddress (h .«src_addr») ≡ true
+  pub pans-stand : PansStand (h .«pan_id_compression») (carried (controlFor h)) (h .«dst_pan_id») (h .«src_pan_id»)
 
-pans-eta : (p : Carried) (a b : Bool) → a ≡ p .dst → b ≡ p .src → p ≡ pans a b
+pub pans-eta : (p : Carried) (a b : Bool) → a ≡ p .dst → b ≡ p .src → p ≡ pans a b
 pans-eta p a b e f = rw (e, f)
 
 zero-of : (t : Bool) (n : ℕ) → choose t true (eqb n 0) ≡ true → t ≡ false → n ≡ 0
@@ -209,9 +215,9 @@ zero-of false n e f = eqb-true n 0 e
 pans-of : (c : Bool) (p : Carried) (d s : PanField) → pansStand c p d s ≡ true → PansStand c p d s
 unfolding pansStand
 pans-of c p d s e =
-    let x = both (same (hasPan d) (p .dst)) _ e in
-    let y = both (same (hasPan s) (p .src)) _ (x .1) in
-    let z = both (eqb (bitOf (hasPan d) + bitOf (hasPan s)) (choose c 1 2)) (choose (hasPan d) true (eqb (panOr s) 0)) (y .1) in
+    let x = and-true (same (hasPan d) (p .dst)) _ e in
+    let y = and-true (same (hasPan s) (p .src)) _ (x .1) in
+    let z = and-true (eqb (bitOf (hasPan d) + bitOf (hasPan s)) (choose c 1 2)) (choose (hasPan d) true (eqb (panOr s) 0)) (y .1) in
     record {
       are-carried = pans-eta p (hasPan d) (hasPan s) (same-is (hasPan d) (p .dst) (x .0)) (same-is (hasPan s) (p .src) (y .0));
       are-counted = eqb-true _ _ (z .0);
@@ -221,13 +227,13 @@ pans-of c p d s e =
 domain : (h : Repr) → roundTrips h ≡ true → Domain h
 unfolding roundTrips
 domain h e =
-    let a = both _ _ e in
-    let b = both _ _ (a .1) in
-    let c = both _ _ (b .1) in
-    let d = both _ _ (c .1) in
-    let f = both _ _ (d .1) in
-    let g = both _ _ (f .1) in
-    let i = both _ _ (g .1) in
+    let a = and-true _ _ e in
+    let b = and-true _ _ (a .1) in
+    let c = and-true _ _ (b .1) in
+    let d = and-true _ _ (c .1) in
+    let f = and-true _ _ (d .1) in
+    let g = and-true _ _ (f .1) in
+    let i = and-true _ _ (g .1) in
     record {
       unsecured = not-true (h .«security_enabled») (a .0);
       version = ltb-true (h .«frame_version» .0) 4 (b .0);
@@ -246,7 +252,7 @@ addressed-go t true false v e f g = lt-ltb t 6 (omega (arith, f refl))
 addressed-go t false b v e f g = e
 
 -- a frame type with addressing has a sequence number
-addressed-sequence : (k : Control) → hasAddressing k ≡ true → hasSequence k ≡ true
+pub addressed-sequence : (k : Control) → hasAddressing k ≡ true → hasSequence k ≡ true
 unfolding hasAddressing hasSequence
 addressed-sequence k e = let t = k .«frame_type» .0 in addressed-go t (eqb t 2) (eqb t 4) (eqb (k .«frame_version» .0) 2) e (λ z. eqb-true t 2 z) (λ z. ne-eqb t 4 (λ y. omega arith))
 
@@ -265,13 +271,13 @@ source-alone c true false n e = sym e
 source-alone true false false n e = absurd (omega arith)
 source-alone false false false n e = absurd (omega arith)
 
-abbrev fieldsOf : Repr → Addressing
+abbrev pub fieldsOf : Repr → Addressing
 fieldsOf h = sidesOf (sideOf (h .«dst_pan_id») (h .«dst_addr»)) (sideOf (h .«src_pan_id») (h .«src_addr»))
 
-abbrev afterSequence : Repr → List ℕ
+abbrev pub afterSequence : Repr → List ℕ
 afterSequence h = writtenFields (h .«pan_id_compression») (h .«dst_pan_id») (h .«dst_addr») (h .«src_pan_id») (h .«src_addr»)
 
-bytes-are : (h : Repr) → le16Bytes (wordOf (controlFor h)) ++ (byteBytes (sequenceOr (h .«sequence_number»)) ++ afterSequence h) ≡ bytesOf h
+pub bytes-are : (h : Repr) → le16Bytes (wordOf (controlFor h)) ++ (byteBytes (sequenceOr (h .«sequence_number»)) ++ afterSequence h) ≡ bytesOf h
 unfolding bytesOf frontBytes backBytes sourceBytes
 bytes-are h = simp append-assoc
 
@@ -312,7 +318,7 @@ suffices h e =
     let d = domain h e in
     let k = controlFor h in
     let q = sequenceOr (h .«sequence_number») in
-    let same-control : controlOf (wordOf k) ≡ k = control-same h (sequence-type k (addressed-sequence k (d .is-addressed))) (d .version) in
+    let same-control : controlOf (wordOf k) ≡ k = control-back k ∙ masked-same h (sequence-type k (addressed-sequence k (d .is-addressed))) (d .version) in
     subst (λ bs. Reads header bs h) (bytes-are h)
     (reads-then le16 (λ fc. _>>=_ byte (λ s. headerRest (controlOf fc) s)) (le16Bytes (wordOf k)) (byteBytes q ++ afterSequence h) (wordOf k) h (reads-le16 (wordOf k))
     (reads-then byte (λ s. headerRest (controlOf (wordOf k)) s) (byteBytes q) (afterSequence h) q h (reads-byte q) (rw same-control (reads-rest h d))))
@@ -322,7 +328,7 @@ mac-is : (s : List ℕ) → 3 ≤ length s → length s ≤ 127 → mac s ≡ he
 unfolding mac
 mac-is s l u = rw (le-ltb (length s) 3 l, le-ltb 127 (length s) u)
 
-length-least : (h : Repr) → 5 ≤ lengthOf h
+pub length-least : (h : Repr) → 5 ≤ lengthOf h
 unfolding lengthOf
 length-least h = go (h .«pan_id_compression») (fieldLength (h .«dst_addr») + fieldLength (h .«src_addr»))
   where

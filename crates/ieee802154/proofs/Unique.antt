@@ -1,13 +1,9 @@
 -- Any two answers that meet a contract are equal: the meaning of each public answer takes no two answers to one.
-use Prim.Native.Nat.{ℕ}
-use mathlib.Core.Option.{Option, none, some}
-use mathlib.Core.Path.{_≡_, refl, sym, ap, _∙_}
+use mathlib.Core.Path.{_≡_, refl, ap}
 use Rattle.octets.specs.Read.{Placed}
-use Rattle.octets.specs.declared.ipv6.Ipv6Addr.{Ipv6Addr}
 use Rattle.octets.proofs.Unique.{Injective, refusal-back, back, one}
 use Rattle.ieee802154.specs.Address.{ofAddress, ofEui, ofLinkLocal}
 use Rattle.ieee802154.specs.Mac.{ofParsed}
-use Rattle.ieee802154.specs.declared.addr.Address.{Address}
 use Rattle.ieee802154.specs.declared.addr.AddressAnswer.{AddressAnswer}
 use Rattle.ieee802154.specs.declared.addr.Eui64.{Eui64}
 use Rattle.ieee802154.specs.declared.addr.LinkLocal.{LinkLocal}

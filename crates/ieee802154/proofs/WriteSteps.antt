@@ -1,5 +1,5 @@
 -- The steps of the writers, for `search`; and the length of what each writes.
-use Prim.Native.Nat.{ℕ, _+_}
+use Prim.Native.Nat.{ℕ, _+_, _≤_}
 use native.Mathlib.Omega.{arith}
 use mathlib.Core.List.{List, _++_}
 use mathlib.Core.Bool.{Bool, true, false}
@@ -64,3 +64,22 @@ unfolding bytesOf backBytes lengthOf
 length-bytes h =
     let d = fieldBytes (h .«dst_addr») in
     omega (arith, length-append (frontBytes h) (d ++ sourceBytes h), length-append d (sourceBytes h), length-front h, length-field (h .«dst_addr»), length-sources h)
+
+pub length-le16 : (x : ℕ) → length (le16Bytes x) ≡ 2
+unfolding le16Bytes
+length-le16 x = refl
+
+-- ---- no header is longer than 23 bytes: two extended addresses, uncompressed
+field-most : (a : AddressField) → fieldLength a ≤ 8
+field-most AddressField.None = omega arith
+field-most (AddressField.Some Absent) = omega arith
+field-most (AddressField.Some (Short x)) = omega arith
+field-most (AddressField.Some (Extended x)) = omega arith
+
+pub length-most : (h : Repr) → lengthOf h ≤ 23
+unfolding lengthOf
+length-most h = go (h .«pan_id_compression») (fieldLength (h .«dst_addr»)) (fieldLength (h .«src_addr»)) (field-most (h .«dst_addr»)) (field-most (h .«src_addr»))
+  where
+    go : (c : Bool) (d s : ℕ) → d ≤ 8 → s ≤ 8 → choose c 5 7 + (d + s) ≤ 23
+    go true d s p q = omega arith
+    go false d s p q = omega arith

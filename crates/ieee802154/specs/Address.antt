@@ -35,6 +35,11 @@ isBroadcast Absent = false
 isBroadcast (Short a) = eqb a 0xffff
 isBroadcast (Extended a) = false
 
+abbrev pub isPresent : Address → Bool
+isPresent Absent = false
+isPresent (Short a) = true
+isPresent (Extended a) = true
+
 -- ---- an address as bytes, the first one high
 -- two bytes: a short address; eight: an extended one; any other count: 4
 unfoldable pub fromBytes : List ℕ → Answer Address

@@ -3,7 +3,7 @@ use Prim.Native.Nat.{ℕ}
 use mathlib.Core.List.{List, []}
 use mathlib.Core.Bool.{Bool}
 use lib.Dec.{eqb}
-use Rattle.octets.specs.Read.{Answer, is, refused, Read, Reader, got, choose, branch, give, refuse, le16, le64, _>>=_}
+use Rattle.octets.specs.Read.{refused, Read, Reader, got, branch, give, refuse, le16, le64, _>>=_}
 use Rattle.octets.specs.Write.{le16Bytes, le64Bytes}
 use Rattle.octets.specs.Refusal.{numberOf}
 use Rattle.ieee802154.specs.Address.{addressLength}

@@ -7,8 +7,10 @@ use Rattle.ieee802154.specs.declared.control.AddressingMode.{AddressingM
 use Rattle.ieee802154.specs.declared.control.Control.{Control}
 use Rattle.ieee802154.specs.declared.control.Carried.{Carried}
 
--- ---- its bits, the lowest first: type 0..2, security 3, pending 4, acknowledgement 5, compression 6, destination mode 10..11, version
--- 12..13, source mode 14..15. Bits 7..9 are ignored, and written as 0 (7 is reserved; sequence suppression and the IE bit: a listed difference)
+-- ---- its bits, the lowest first: frame type 0..2 (7.2.2.2), security enabled 3 (7.2.2.3), frame pending 4 (7.2.2.4), acknowledgement request
+-- 5 (7.2.2.5), PAN ID compression 6 (7.2.2.6), destination mode 10..11 (7.2.2.9), frame version 12..13 (7.2.2.10), source mode 14..15
+-- (7.2.2.11). Bits 7..9 are ignored, and written as 0: 7 is reserved; the scope document lists sequence number suppression, 8, and the IE
+-- bit, 9, as ignored
 abbrev pub bit : ℕ → Bool
 bit x = eqb (x % 2) 1
 
@@ -34,7 +36,7 @@ wordOf k =
     k .«frame_type» .0 % 8 + bitOf (k .«security_enabled») * 8 + bitOf (k .«frame_pending») * 16 + bitOf (k .«ack_request») * 32
     + bitOf (k .«pan_id_compression») * 64 + k .«dst_addr_mode» .0 % 4 * 1024 + k .«frame_version» .0 % 4 * 4096 + k .«src_addr_mode» .0 % 4 * 16384
 
--- ---- what is read: not version 3, a mode of 01, or versions 0 and 1 with compression and both addresses absent
+-- ---- what is read (the scope document): not version 3, a mode of 01, or versions 0 and 1 with compression and both addresses absent
 unfoldable pub supported : Control → Bool
 supported k =
     choose (eqb (k .«frame_version» .0) 3) false

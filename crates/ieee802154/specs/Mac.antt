@@ -2,10 +2,9 @@
 -- decides, it is named.
 use Prim.Native.Nat.{ℕ, _+_}
 use mathlib.Core.List.{List, _++_}
-use mathlib.Core.Bool.{Bool}
 use lib.ListN.{length}
 use lib.Dec.{ltb}
-use Rattle.octets.specs.Read.{Answer, is, refused, Read, Reader, got, choose, branch, give, refuse, byte, le16, _>>=_}
+use Rattle.octets.specs.Read.{refused, Read, Reader, got, choose, branch, give, refuse, byte, le16, _>>=_}
 use Rattle.octets.specs.Write.{byteBytes, le16Bytes}
 use Rattle.octets.specs.Refusal.{numberOf}
 use Rattle.octets.specs.declared.field.ByteField.{ByteField}

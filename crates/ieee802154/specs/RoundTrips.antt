@@ -1,5 +1,6 @@
--- Which headers read back as they were written: a test that computes. proofs/RoundTrips.antt shows that it is exact.
-use Prim.Native.Nat.{ℕ, _+_}
+-- Which headers read back as they were written: a test that computes. It is exact: proofs/RoundTrips.antt shows
+-- that it suffices, proofs/Exact.antt that it is needed.
+use Prim.Native.Nat.{_+_}
 use mathlib.Core.Bool.{Bool, true, false, not, _&&_}
 use lib.Dec.{eqb, ltb}
 use Rattle.octets.specs.Read.{choose}

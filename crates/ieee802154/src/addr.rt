@@ -2,7 +2,7 @@
 ghost use mathlib.Core.Path.{_≡_};
 ghost use mathlib.Core.Bool.{not};
 ghost use Prim.Native.Nat.{_≤_};
-ghost use Rattle.octets.specs.Write.{put, ofWritten, wrote, over};
+ghost use Rattle.octets.specs.Write.{put, ofWritten, wrote, over, le16Bytes};
 ghost use Rattle.ieee802154.specs.Address.{ofAddress, ofEui, ofLinkLocal, isBroadcast, fromBytes, eui64, linkLocalOf, addressLength, addressBytes};
 ghost use Rattle.ieee802154.specs.Addressing.{panOr, fieldLength, modeOf, fieldBytes};
 use super::control::AddressingMode;
@@ -22,6 +22,17 @@ pub struct Pan(pub u16);
 
 impl Pan {
     pub const BROADCAST: Pan = Pan(0xffff);
+
+    // Writes its two bytes as a header has them, the low one first.
+    pub fn emit_bytes(self, buf: &mut [u8]) -> Written
+        ensures { λ r. ⌜ (ofWritten r ≡ wrote 2 (now (buf .entry))) × (now (buf .exit) ≡ over 2 (le16Bytes (self .0)) (now (buf .entry))) ⌝ }
+    {
+        if buf.len() < 2 {
+            return Written::Refused(Refusal::NoRoom);
+        }
+        put_le16(buf, 0, self.0);
+        Written::Bytes(2)
+    }
 }
 
 // An address; a short or an extended one as the number that its bytes are, the first byte high.

@@ -189,7 +189,8 @@ impl Repr {
             return;
         }
         let src_addr = self.src_addr;
-        if self.pan_id_compression {
+        let compressed = self.pan_id_compression;
+        if compressed {
             src_addr.put(buf, at);
             return;
         }

@@ -7,8 +7,9 @@
 //
 // `Repr::parse` is specs/Mac.antt's `mac` on every slice of bytes: a header and its length, or the refusal's number.
 // `Repr::emit` writes exactly the bytes that `bytesOf` lists, or refuses, 7, and leaves the room as it was. proofs/ shows
-// which headers read back as they were written (RoundTrips), and that a length read is the sum of the fields' widths and
-// within the frame (Lengths). No function asks anything of its caller, and each contract fixes the answer and the lent bytes.
+// that a length read is the sum of the fields' widths and within the frame (Lengths), and that exactly the headers that
+// `roundTrips` admits read back as they were written (RoundTrips, Exact). No function asks anything of its caller, and each
+// contract fixes the answer and the lent bytes (Unique).
 pub mod addr;
 pub mod addressing;
 pub mod control;

@@ -1,12 +1,12 @@
 pub mod NextLaws
-pub mod IphcSteps
-pub mod IphcPuts
-pub mod IphcRoundTrip
 pub mod NhcSteps
 pub mod NhcPuts
 pub mod NhcTrips
 pub mod NhcSpans
-pub mod NhcUnique
-pub mod NhcExamples
+pub mod Unique
+pub mod HeaderSteps
+pub mod Examples
 pub mod FragSteps
 pub mod FragPuts
+pub mod FragTrips
+pub mod FragSpans

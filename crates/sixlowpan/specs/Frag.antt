@@ -3,7 +3,7 @@ use Prim.Native.Nat.{ℕ, _+_, _*_, _/_, _%_}
 use mathlib.Core.List.{List, [], _∷_, _++_}
 use mathlib.Core.Bool.{Bool, true, false}
 use lib.Dec.{eqb}
-use Rattle.octets.specs.Read.{Read, Reader, got, refused, branch, give, refuse, byte, be16, _>>=_}
+use Rattle.octets.specs.Read.{Read, Reader, got, refused, choose, branch, give, refuse, byte, be16, _>>=_}
 use Rattle.octets.specs.Refusal.{numberOf}
 use Rattle.octets.specs.Write.{byteBytes, be16Bytes}
 use Rattle.sixlowpan.specs.declared.frag.Units.{Units}
@@ -25,6 +25,10 @@ fragRest word tag =
       o ← byte
       give (Fragment (word % 2048) tag (record { 0 = o })))
     (refuse 2))
+
+-- how many bytes follow the tag
+abbrev pub fragWidth : ℕ → ℕ
+fragWidth word = choose (eqb (word / 2048) 0b11000) 0 1
 
 -- five bits of dispatch and 11 of size, 16 of tag
 unfoldable pub frag : Reader Repr

@@ -1,9 +1,5 @@
 pub mod Dispatch
-pub mod Context
 pub mod Next
-pub mod IphcAnswers
-pub mod Iphc
-pub mod IphcEmit
 pub mod Nhc
 pub mod NhcExt
 pub mod NhcUdp

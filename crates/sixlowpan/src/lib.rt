@@ -2,18 +2,14 @@
 //
 // - `dispatch`: which header a payload starts with. `frag`: fragment headers, offsets in units of 8 octets, and the key that
 //   tells the parts of one datagram from those of another.
-// - `nhc`: compressed UDP and extension headers. `iphc`: compressed IPv6 headers.
+// - `nhc`: compressed UDP and extension headers. `protocol` and `next`: the next header field. (Compressed IPv6 headers are
+//   the crate `iphc`.)
 //
 // Each reader equals a definition written from the RFC, on every input; each writer writes exactly the bytes that its
 // definition lists, or refuses, 7, and leaves the room as it was. What is written reads back (proofs/).
-pub mod context;
 pub mod dispatch;
 pub mod frag;
-pub mod iphc;
-mod iphc_emit;
-mod iphc_form;
-mod iphc_read;
-mod next;
+pub mod next;
 pub mod nhc;
 pub mod protocol;
 

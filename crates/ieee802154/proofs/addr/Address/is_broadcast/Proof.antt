@@ -1,5 +1,5 @@
 use borrow.Author.Needs.{needs}
-use Rattle.octets.proofs.Steps.{case, steps}
+use Rattle.octets.proofs.Steps.{case}
 use Rattle.ieee802154.specs.Address.{isBroadcast}
 use Rattle.ieee802154.proofs.addr.Address.is_broadcast.Statement.{statement}
 use Rattle.ieee802154.proofs.addr.Address.is_broadcast.Tie as tie

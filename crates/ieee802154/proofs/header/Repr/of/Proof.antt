@@ -1,5 +1,4 @@
 use borrow.Author.Needs.{needs}
-use Rattle.octets.proofs.Steps.{steps}
 use Rattle.ieee802154.specs.Mac.{reprOf}
 use Rattle.ieee802154.proofs.header.Repr.of.Statement.{statement}
 use Rattle.ieee802154.proofs.header.Repr.of.Tie as tie

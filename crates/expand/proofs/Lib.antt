@@ -1,0 +1,9 @@
+pub mod Steps
+pub mod CopyLaws
+pub mod SumLaws
+pub mod FullLaws
+pub mod ExpandLaws
+pub mod ChecksumLaws
+pub mod Datagrams
+pub mod Unique
+pub mod Examples

@@ -1,0 +1,4 @@
+pub mod Sum
+pub mod Headers
+pub mod Full
+pub mod Expand

@@ -1,0 +1,30 @@
+// Bytes of a slice put into lent bytes.
+ghost use mathlib.Core.Path.{_≡_};
+ghost use Prim.Native.Nat.{min};
+ghost use lib.ListN.{length, take, drop};
+ghost use Rattle.octets.specs.Write.{put};
+
+// How many bytes there are from a place on.
+pub fn left(s: &[u8], at: usize) -> usize
+    ensures { λ r. ⌜ r ≡ length (drop at (now (s .entry))) ⌝ }
+{
+    if at < s.len() { s.len() - at } else { 0 }
+}
+
+fn least(a: usize, b: usize) -> usize
+    ensures { λ r. ⌜ r ≡ min a b ⌝ }
+{
+    if a <= b { a } else { b }
+}
+
+// Puts n bytes of s, from the place `from` on, into lent bytes from the place `at` on. What lies past an end is dropped.
+pub fn put_part(buf: &mut [u8], at: usize, s: &[u8], from: usize, n: usize)
+    ensures { λ _. ⌜ now (buf .exit) ≡ put at (take n (drop from (now (s .entry)))) (now (buf .entry)) ⌝ }
+{
+    let m = least(least(n, left(s, from)), left(buf, at));
+    let mut i = 0;
+    while i < m {
+        buf[at + i] = s[from + i];
+        i += 1;
+    }
+}

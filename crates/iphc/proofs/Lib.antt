@@ -1,0 +1,6 @@
+pub mod Steps
+pub mod Puts
+pub mod RoundTrip
+pub mod Lengths
+pub mod Examples
+pub mod Unique

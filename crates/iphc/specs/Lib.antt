@@ -1,0 +1,5 @@
+pub mod Context
+pub mod Answers
+pub mod Iphc
+pub mod Emit
+pub mod Widths

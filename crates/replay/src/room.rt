@@ -1,0 +1,135 @@
+// Rooms that writers write into.
+use super::answer;
+use super::fields;
+use octets::write::Written;
+use text::print;
+
+// The largest room.
+pub const MOST: usize = 512;
+
+// What stands in a room before a writer runs.
+const FILL: u8 = 0xa5;
+
+// The value of one to three decimal digits, from a place to the line's end; NONE where they are none.
+fn decimal(line: &[u8], from: usize) -> usize {
+    if line.len() <= from {
+        return fields::NONE;
+    }
+    if 3 < line.len() - from {
+        return fields::NONE;
+    }
+    let mut value: u32 = 0;
+    let mut i = from;
+    while i < line.len() {
+        if line[i] < b'0' {
+            return fields::NONE;
+        }
+        if b'9' < line[i] {
+            return fields::NONE;
+        }
+        value = value % 1000 * 10 + (line[i] - b'0') as u32;
+        i += 1;
+    }
+    value as usize
+}
+
+// So many bytes more than a writer's length, or NONE.
+fn longer(len: usize, more: usize) -> usize {
+    if more < 1000 {
+        return len % 4096 + more;
+    }
+    fields::NONE
+}
+
+// So many bytes less, or NONE.
+fn shorter(len: usize, less: usize) -> usize {
+    if less <= len {
+        return len - less;
+    }
+    fields::NONE
+}
+
+// How large a room a line's last field asks for, by the writer's length; over MOST where the line is no command.
+fn size(line: &[u8], from: usize, len: usize) -> usize {
+    if line.len() <= from {
+        return fields::NONE;
+    }
+    let next = from + 1;
+    match line[from] {
+        b'=' => {
+            if next == line.len() {
+                return len;
+            }
+            fields::NONE
+        }
+        b'+' => longer(len, decimal(line, next)),
+        b'-' => shorter(len, decimal(line, next)),
+        _ => decimal(line, from),
+    }
+}
+
+// The room that a line's last field asks for, filled; NONE where the line is no command.
+pub fn made(line: &[u8], from: usize, len: usize, a: &mut [u8]) -> usize {
+    let n = size(line, from, len);
+    if MOST < n {
+        return fields::NONE;
+    }
+    if a.len() < n {
+        return fields::NONE;
+    }
+    fill(&mut a[0..n]);
+    n
+}
+
+fn fill(room: &mut [u8]) {
+    let mut i: usize = 0;
+    while i < room.len() {
+        room[i] = FILL;
+        i += 1;
+    }
+}
+
+fn is_filled(room: &[u8]) -> bool {
+    let mut i: usize = 0;
+    while i < room.len() {
+        if room[i] != FILL {
+            return false;
+        }
+        i += 1;
+    }
+    true
+}
+
+// The bytes of a room, '-' for none.
+fn put_room(out: &mut [u8], to: usize, room: &[u8]) -> usize {
+    let n = print::put(out, to, b' ');
+    answer::hex_bytes(out, n, room)
+}
+
+// A writer's answer. One that wrote another length than it announced, or wrote and refused, has a longer line, which the
+// comparison sees.
+pub fn written(out: &mut [u8], to: usize, len: usize, w: Written, room: &[u8]) -> usize {
+    match w {
+        Written::Bytes(n) => {
+            let k = wrote(out, to, len, n);
+            put_room(out, k, room)
+        }
+        Written::Refused(e) => {
+            let k = answer::refused(out, to, e);
+            if is_filled(room) {
+                return k;
+            }
+            let m = print::text(out, k, b" wrote");
+            put_room(out, m, room)
+        }
+    }
+}
+
+fn wrote(out: &mut [u8], to: usize, len: usize, bytes: usize) -> usize {
+    let n = answer::ok(out, to, len);
+    if bytes == len {
+        return n;
+    }
+    let m = print::text(out, n, b" wrote ");
+    print::decimal(out, m, bytes as u64)
+}

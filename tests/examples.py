@@ -1,0 +1,119 @@
+#!/usr/bin/env python3
+"""Writes the examples: for each a text of frames, the capture that make-capture makes of it, and the lines model.py says.
+
+    examples.py write     writes them
+    examples.py check     makes them anew and compares
+"""
+
+import os
+import random
+import subprocess
+import sys
+
+import frames as f
+import model
+
+FOLDER = os.path.join(os.path.dirname(os.path.abspath(__file__)), "..", "examples")
+
+CONTROLLER = f.short(0xabcd)
+LAST_MONTH, THIS_MONTH, NEIGHBOUR = f.short(1), f.short(2), f.short(0x1234)
+
+
+def patch_block(source, words, size, **others):
+    """A block of a patch: a UDP datagram of `size` bytes from port f0b1 to port f0b2 between link-local addresses."""
+    rng = random.Random(words)
+    data = words.encode() + rng.randbytes(size - 48 - len(words))
+    return f.udp_datagram(f.link_local(source), f.link_local(CONTROLLER), 0xf0b1, 0xf0b2, data, **others)
+
+
+def line(time, frame, remark=""):
+    return f"{time} {frame.hex()}" + (f"  # {remark}" if remark else "")
+
+
+def patch():
+    lines = ["# One gateway (short address 0001) sends a patch block, a datagram of 1,300 bytes in twenty frames.",
+             "# The checksum is left out by the sender; the receiver computes it."]
+    datagram = patch_block(LAST_MONTH, "PATCH 2026-10 block 3 of 40\n", 1300)
+    for i, frame in enumerate(f.frames(datagram, 0x0007, LAST_MONTH, CONTROLLER, limit=80, elide=True)):
+        lines.append(line(1000 + 12 * i, frame))
+    return lines
+
+
+def two_gateways():
+    lines = ["# Two gateways in one shaft: 0001 still sends last month's block, 0002 sends this month's.",
+             "# Both have 400 bytes, and both gateways chose the tag 0007."]
+    old = patch_block(LAST_MONTH, "PATCH 2026-10 block 3 of 40\n", 400)
+    new = patch_block(THIS_MONTH, "PATCH 2026-11 block 3 of 40\n", 400)
+    old_frames = f.frames(old, 7, LAST_MONTH, CONTROLLER, limit=80)
+    new_frames = f.frames(new, 7, THIS_MONTH, CONTROLLER, limit=80)
+    time = 1000
+    for i in range(len(old_frames)):
+        # Not always in turn, and the third and fourth part of this month's block change places.
+        j = {2: 3, 3: 2}.get(i, i)
+        pair = [line(time, old_frames[i], "last month's"), line(time + 5, new_frames[j], "this month's")]
+        lines += pair
+        time += 12
+    return lines
+
+
+def damaged():
+    lines = ["# What a receiver refuses, and a capture that is damaged at its end."]
+    datagram = patch_block(LAST_MONTH, "PATCH 2026-10 block 4 of 40\n", 136)
+    first, second, third = f.frames(datagram, 8, LAST_MONTH, CONTROLLER, first_end=56, step=40)
+    mac = f.mac(LAST_MONTH, CONTROLLER)
+    other = second[:-1] + bytes([second[-1] ^ 1])
+    small = patch_block(THIS_MONTH, "hello", 60)
+    secured = f.mac(THIS_MONTH, CONTROLLER, 9, version=1, security=bytes.fromhex("0d0100000001"))
+    lines += [
+        line(1000, first, "the first part: bytes 0 to 55"),
+        line(1010, second, "the second: bytes 56 to 95"),
+        line(1015, second, "the second again, the same: a repeat"),
+        line(1020, f.whole(small, NEIGHBOUR, CONTROLLER), "from 1234, which is no gateway"),
+        line(1025, secured + bytes(20), "a secured frame"),
+        line(1030, other, "the second part with another last byte: a clash, and its slot is freed"),
+        line(1040, third, "the third: bytes 96 to 135; it opens a slot anew"),
+        line(1050, mac + f.fragn(136, 8, 7) + datagram[56:66], "ten bytes that do not end the datagram"),
+        line(1060, first[:8], "a frame that was cut short"),
+        line(1055, first, "a time before the last one"),
+        line(1070, first, "the first part again"),
+        line(1080, second, "the second part again: now the datagram is whole"),
+        line(1090, f.whole(small, THIS_MONTH, CONTROLLER), "a datagram in one frame"),
+        line(1100, mac + b"\x41" + small, "IPv6 that is not compressed"),
+        "block",
+        line(1110, f.whole(small, THIS_MONTH, CONTROLLER), "a good frame, but the frame check of its block is wrong"),
+        "spoil",
+        "block",
+        line(1120, f.whole(small, THIS_MONTH, CONTROLLER), "a good block that is no longer read"),
+    ]
+    return lines
+
+
+EXAMPLES = {"patch": patch, "two-gateways": two_gateways, "damaged": damaged}
+
+
+def main(arguments):
+    if arguments not in (["write"], ["check"]):
+        sys.exit(__doc__)
+    wrong = 0
+    for name, make in EXAMPLES.items():
+        text = "\n".join(make()) + "\n"
+        capture = subprocess.run([os.path.join(FOLDER, "make-capture")], input=text.encode(), stdout=subprocess.PIPE,
+                                 check=True).stdout
+        expected = "\n".join(model.heard(capture)) + "\n"
+        for ending, data in ((".txt", text.encode()), (".cap", capture), (".expected", expected.encode())):
+            path = os.path.join(FOLDER, name + ending)
+            if arguments == ["write"]:
+                with open(path, "wb") as file:
+                    file.write(data)
+            else:
+                with open(path, "rb") as file:
+                    if file.read() != data:
+                        print(f"{name}{ending} is not what examples.py writes")
+                        wrong = 1
+    if not wrong:
+        print("written" if arguments == ["write"] else f"{len(EXAMPLES)} examples as written")
+    sys.exit(wrong)
+
+
+if __name__ == "__main__":
+    main(sys.argv[1:])

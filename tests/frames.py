@@ -1,0 +1,297 @@
+"""Builds IEEE 802.15.4 frames from IPv6 datagrams, from the standards: the MAC header of IEEE 802.15.4 (7.2), the
+fragment headers of RFC 4944 5.3, IPHC and UDP NHC of RFC 6282. It shares nothing with model.py, so that a datagram that
+comes back whole says something about both.
+
+A link-layer address is its bytes, most significant first: 2 for a short one, 8 for an extended one, none for absent.
+An IPv6 address is its 16 bytes. Every knob has the value a usual sender would choose.
+
+    frames.py check     the marked examples of document 01 that a sender can show
+"""
+
+import ipaddress
+import struct
+import sys
+
+PAN = 0xabcd
+BROADCAST = bytes.fromhex("ffff")
+LIMIT = 125                # 127 less the frame check, which is stripped here
+
+
+def short(number):
+    return struct.pack(">H", number)
+
+
+def extended(number):
+    return struct.pack(">Q", number)
+
+
+def ip(text):
+    return ipaddress.IPv6Address(text).packed
+
+
+# ---------------------------------------------------------------------------------------------------------- datagrams
+
+def iid(link):
+    """The interface identifier of a link-layer address (RFC 6282 3.2.2, RFC 4291 appendix A)."""
+    if len(link) == 8:
+        return bytes([link[0] ^ 0x02]) + link[1:]
+    return bytes.fromhex("000000fffe00") + link
+
+
+def link_local(link):
+    return ip("fe80::")[:8] + iid(link)
+
+
+def datagram(src, dst, next_header, payload, hop=64, traffic_class=0, flow=0):
+    """RFC 8200 3."""
+    head = struct.pack(">IHBB", 6 << 28 | traffic_class << 20 | flow, len(payload), next_header, hop)
+    return head + src + dst + payload
+
+
+def udp_checksum(src, dst, udp):
+    """RFC 768 and RFC 8200 8.1: a number is its own sum of digits modulo the base less one, so the one's complement
+    sum of 16-bit words is the remainder by 65,535."""
+    data = src + dst + struct.pack(">II", len(udp), 17) + udp
+    if len(data) % 2:
+        data += b"\0"
+    return 0xffff - int.from_bytes(data, "big") % 0xffff or 0xffff
+
+
+def udp_datagram(src, dst, src_port, dst_port, data, checksum=None, **others):
+    """A datagram with a UDP header; its checksum is the right one unless another is given."""
+    length = 8 + len(data)
+    if checksum is None:
+        checksum = udp_checksum(src, dst, struct.pack(">HHHH", src_port, dst_port, length, 0) + data)
+    return datagram(src, dst, 17, struct.pack(">HHHH", src_port, dst_port, length, checksum) + data, **others)
+
+
+# --------------------------------------------------------------------------------------------------------- MAC header
+
+def mac(src, dst, sequence=0, pan=PAN, src_pan=None, version=0, compress=True, frame_type=1, security=None,
+        pending=False, ack=False):
+    """A MAC header. `security` is an auxiliary security header (its bytes), or None. Table 7-2 of IEEE 802.15.4 says
+    which PANs go with version 2; before it each address has its PAN, the source's left out by compression."""
+    modes = {0: 0, 2: 2, 8: 3}
+    if src_pan is None:
+        src_pan = pan
+    has_dst, has_src = len(dst) > 0, len(src) > 0
+    if version < 2:
+        dst_pan_in, src_pan_in = has_dst, has_src and not (has_dst and compress)
+    else:
+        row = (len(dst) // 4 + has_dst, len(src) // 4 + has_src)       # 0 absent, 1 short, 3 extended
+        dst_pan_in, src_pan_in = {
+            (0, 0): ((False, False), (True, False)),
+            (1, 0): ((True, False), (False, False)), (3, 0): ((True, False), (False, False)),
+            (0, 1): ((False, True), (False, False)), (0, 3): ((False, True), (False, False)),
+            (3, 3): ((True, False), (False, False)),
+            (1, 1): ((True, True), (True, False)),
+            (1, 3): ((True, True), (True, False)),
+            (3, 1): ((True, True), (True, False)),
+        }[row][bool(compress)]
+    control = frame_type | (security is not None) << 3 | pending << 4 | ack << 5 | bool(compress) << 6
+    control |= modes[len(dst)] << 10 | version << 12 | modes[len(src)] << 14
+    header = struct.pack("<HB", control, sequence & 0xff)
+    if dst_pan_in:
+        header += struct.pack("<H", pan)
+    header += dst[::-1]
+    if src_pan_in:
+        header += struct.pack("<H", src_pan)
+    header += src[::-1]
+    return header + (security or b"")
+
+
+# --------------------------------------------------------------------------------------------------------------- IPHC
+
+def unicast_forms(address, link, contexts, source):
+    """All the ways RFC 6282 3.1.1 has to write a unicast address: (AC, context, AM, inline bytes), longest first."""
+    forms = [(0, 0, 0, address)]
+    if source and address == bytes(16):
+        forms.append((1, 0, 0, b""))
+    prefixes = [(0, 0, ip("fe80::")[:8])] + [(1, i, c) for i, c in enumerate(contexts[:16])]
+    for ac, number, prefix in prefixes:
+        if address[:8] != prefix:
+            continue
+        forms.append((ac, number, 1, address[8:]))
+        if address[8:14] == bytes.fromhex("000000fffe00"):
+            forms.append((ac, number, 2, address[14:]))
+        if link and address[8:] == iid(link):
+            forms.append((ac, number, 3, b""))
+    return forms
+
+
+def multicast_forms(address):
+    forms = [(0, 0, 0, address)]
+    if not any(address[2:11]):
+        forms.append((0, 0, 1, address[1:2] + address[11:]))
+    if not any(address[2:13]):
+        forms.append((0, 0, 2, address[1:2] + address[13:]))
+    if address[1] == 2 and not any(address[2:15]):
+        forms.append((0, 0, 3, address[15:]))
+    return forms
+
+
+def shortest(forms):
+    return min(forms, key=lambda form: (len(form[3]) + (form[1] > 0), form[0]))
+
+
+def traffic_forms(traffic_class, flow):
+    """TF values that can carry this traffic class and flow label: (TF, inline bytes), longest first. In line ECN comes
+    before DSCP (RFC 6282 3.2.1)."""
+    ecn, dscp = traffic_class & 3, traffic_class >> 2
+    forms = [(0, struct.pack(">I", ecn << 30 | dscp << 24 | flow))]
+    if dscp == 0:
+        forms.append((1, struct.pack(">I", ecn << 22 | flow)[1:]))
+    if flow == 0:
+        forms.append((2, bytes([ecn << 6 | dscp])))
+    if traffic_class == 0 and flow == 0:
+        forms.append((3, b""))
+    return forms
+
+
+def iphc(packet, link_src, link_dst, contexts=(), compressed_next=False, choose=shortest, inline_hop=False,
+         inline_traffic=False, force_context_byte=False):
+    """The IPHC header of a datagram. `choose` picks among the forms of an address."""
+    word, _, next_header, hop = struct.unpack(">IHBB", packet[:8])
+    src, dst = packet[8:24], packet[24:40]
+    forms = traffic_forms(word >> 20 & 0xff, word & 0xfffff)
+    tf, traffic = forms[0] if inline_traffic else forms[-1]
+    hlim = 0 if inline_hop else {1: 1, 64: 2, 255: 3}.get(hop, 0)
+    sac, src_context, sam, src_inline = choose(unicast_forms(src, link_src, contexts, True))
+    multicast = dst[0] == 0xff
+    if multicast:
+        dac, dst_context, dam, dst_inline = choose(multicast_forms(dst))
+    else:
+        dac, dst_context, dam, dst_inline = choose(unicast_forms(dst, link_dst, contexts, False))
+    cid = src_context > 0 or dst_context > 0 or force_context_byte
+    base = 0b011 << 13 | tf << 11 | compressed_next << 10 | hlim << 8
+    base |= cid << 7 | sac << 6 | sam << 4 | multicast << 3 | dac << 2 | dam
+    header = struct.pack(">H", base)
+    if cid:
+        header += bytes([src_context << 4 | dst_context])
+    header += traffic
+    if not compressed_next:
+        header += bytes([next_header])
+    if hlim == 0:
+        header += bytes([hop])
+    return header + src_inline + dst_inline
+
+
+def udp_nhc(src_port, dst_port, checksum, plain_ports=False):
+    """RFC 6282 4.3; a checksum of None is elided."""
+    c = 0 if checksum is not None else 4
+    if plain_ports:
+        nhc = struct.pack(">BHH", 0xf0 | c, src_port, dst_port)
+    elif src_port >> 4 == 0xf0b and dst_port >> 4 == 0xf0b:
+        nhc = bytes([0xf3 | c, (src_port & 15) << 4 | dst_port & 15])
+    elif src_port >> 8 == 0xf0:
+        nhc = struct.pack(">BBH", 0xf2 | c, src_port & 0xff, dst_port)
+    elif dst_port >> 8 == 0xf0:
+        nhc = struct.pack(">BHB", 0xf1 | c, src_port, dst_port & 0xff)
+    else:
+        nhc = struct.pack(">BHH", 0xf0 | c, src_port, dst_port)
+    return nhc if checksum is None else nhc + struct.pack(">H", checksum)
+
+
+def compress(packet, link_src, link_dst, nhc=True, elide=False, plain_ports=False, **knobs):
+    """The compressed headers of a datagram and how many of its bytes they stand for. A UDP header can be compressed only
+    if its length is that of the payload (RFC 6282 4.3.1)."""
+    if nhc and packet[6] == 17 and len(packet) >= 48 and packet[44:46] == packet[4:6]:
+        src_port, dst_port, _, checksum = struct.unpack(">HHHH", packet[40:48])
+        header = iphc(packet, link_src, link_dst, compressed_next=True, **knobs)
+        return header + udp_nhc(src_port, dst_port, None if elide else checksum, plain_ports), 48
+    return iphc(packet, link_src, link_dst, **knobs), 40
+
+
+# ------------------------------------------------------------------------------------------------------------- frames
+
+def frag1(size, tag):
+    """RFC 4944 5.3; the size is masked to its 11 bits."""
+    return struct.pack(">HH", 0b11000 << 11 | size & 0x7ff, tag)
+
+
+def fragn(size, tag, unit):
+    return struct.pack(">HHB", 0b11100 << 11 | size & 0x7ff, tag, unit)
+
+
+class Part:
+    """A part of a datagram: where it begins and ends there, and what follows the MAC header."""
+
+    def __init__(self, begin, end, payload):
+        self.begin, self.end, self.payload = begin, end, payload
+
+    def __repr__(self):
+        return f"Part({self.begin}, {self.end}, {self.payload.hex()})"
+
+
+def later_part(packet, tag, begin, end, size=None):
+    size = len(packet) if size is None else size
+    return Part(begin, end, fragn(size, tag, begin // 8) + packet[begin:end])
+
+
+def first_part(packet, tag, end, link_src, link_dst, size=None, **knobs):
+    header, covered = compress(packet, link_src, link_dst, **knobs)
+    size = len(packet) if size is None else size
+    return Part(0, max(end, covered), frag1(size, tag) + header + packet[covered:end])
+
+
+def cut(packet, tag, link_src, link_dst, room, first_end=None, step=None, **knobs):
+    """A cutting into parts whose payloads have at most `room` bytes: each as long as fits, or `step` bytes (a multiple
+    of 8) after a first part that ends at `first_end`."""
+    header, covered = compress(packet, link_src, link_dst, **knobs)
+    size = len(packet)
+    if first_end is None:
+        first_end = covered + room - 4 - len(header)
+    if first_end < size:
+        first_end -= first_end % 8
+    if first_end < min(covered, size):
+        raise ValueError("the headers do not fit")
+    first_end = min(first_end, size)
+    parts = [first_part(packet, tag, first_end, link_src, link_dst, **knobs)]
+    most = (room - 5) // 8 * 8
+    step = most if step is None else min(step, most)
+    begin = first_end
+    while begin < size:
+        end = min(begin + step, size)
+        parts.append(later_part(packet, tag, begin, end))
+        begin = end
+    return parts
+
+
+def whole(packet, src, dst, header=None, **knobs):
+    """One frame with the whole datagram."""
+    compressed, covered = compress(packet, src, dst, **knobs)
+    return (mac(src, dst) if header is None else header) + compressed + packet[covered:]
+
+
+def frames(packet, tag, src, dst, limit=LIMIT, sequence=0, pan=PAN, version=0, compress_pan=True, first_end=None,
+           step=None, **knobs):
+    """The frames of a datagram cut into parts."""
+    length = len(mac(src, dst, sequence, pan, version=version, compress=compress_pan))
+    parts = cut(packet, tag, src, dst, limit - length, first_end, step, **knobs)
+    return [mac(src, dst, sequence + i, pan, version=version, compress=compress_pan) + part.payload
+            for i, part in enumerate(parts)]
+
+
+# ------------------------------------------------------------------------------------------------------ marked examples
+
+def check():
+    """K1, K2, K6 to K9 and K11 written, and the trap of the destination port."""
+    ext, abcd = extended(0x0011223344556677), short(0xabcd)
+    k1 = datagram(ip("fe80::211:2233:4455:6677"), ip("fe80::ff:fe00:abcd"), 58, b"")
+    assert iphc(k1, ext, abcd).hex() == "7a333a"
+    k2 = datagram(ip("fe80::211:2233:4455:6677"), ip("ff02::1"), 58, b"", hop=255)
+    assert iphc(k2, ext, abcd).hex() == "7b3b3a01"
+    assert udp_nhc(0xf0b1, 0xf0b2, 0x1234).hex() == "f3121234"
+    assert udp_nhc(0xf0b1, 0xf0c0, 0x1234).hex() == "f2b1f0c01234"
+    assert udp_nhc(0x0050, 0xf000, None).hex() == "f5005000"
+    assert frag1(1280, 7).hex() == "c5000007" and fragn(1280, 7, 12).hex() == "e50000070c"
+    assert mac(short(0x1234), BROADCAST, 5).hex() == "418805cdabffff3412"
+    # RFC 768's sum, worked by hand: ::1 to ::1, ports 1 and 2, no data: 1+1+8+17+1+2+8 = 38, so ffd9.
+    assert udp_datagram(ip("::1"), ip("::1"), 1, 2, b"")[46:48].hex() == "ffd9"
+    print("ok")
+
+
+if __name__ == "__main__":
+    if sys.argv[1:] != ["check"]:
+        sys.exit("usage: frames.py check")
+    check()

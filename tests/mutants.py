@@ -1,0 +1,675 @@
+#!/usr/bin/env python3
+"""Do the generators notice mistakes? Each mutant is model.py with one reading changed; captures.py and calls.py must tell
+it from model.py within their 10,000 captures or runs.
+
+    mutants.py [--count 10000] [--seed 1] [NAME ..]
+
+Prints for each mutant the number of the first capture and of the first run that tells it apart; `-` where that face
+cannot show it (`heard` prints no bytes and no slots, has no contexts and only short gateways). The status is 1 if a
+mutant gets through.
+"""
+
+import argparse
+import os
+import sys
+import types
+
+import calls
+import captures
+import model
+
+BOTH, CALLS, CAPTURES = "both", "calls", "captures"
+
+# Name, the faces that can show it, then pieces of model.py's text, each followed by what stands for it.
+
+MUTANTS = [
+    # The customer's question and 01's traps.
+    ("key without source", BOTH, "self.slots[s].key == key:", "self.slots[s].key[1:] == key[1:]:"),
+    ("key without destination", BOTH,
+     "self.slots[s].key == key:",
+     "(self.slots[s].key[0],) + self.slots[s].key[2:] == (key[0],) + key[2:]:"),
+    ("key without size", BOTH,
+     "self.slots[s].key == key:",
+     "self.slots[s].key[:2] + self.slots[s].key[3:] == key[:2] + key[3:]:"),
+    ("key without tag", BOTH, "self.slots[s].key == key:", "self.slots[s].key[:3] == key[:3]:"),
+    ("key by size and tag only", BOTH, "self.slots[s].key == key:", "self.slots[s].key[2:] == key[2:]:"),
+    ("key with the PAN", BOTH,
+     "key = (mac.src, mac.dst, fragment.size, fragment.tag)",
+     "key = (mac.src, mac.dst, fragment.size, fragment.tag, mac.dst_pan)",
+     "src, dst, size, tag = slot.key",
+     "src, dst, size, tag = slot.key[:4]"),
+    ("same place with other bytes is harmless", BOTH,
+     "first == begin and length == len(data) and taken == data:",
+     "first == begin and length == len(data):"),
+    ("same begin and bytes as far as they go is a repeat", BOTH,
+     "first == begin and length == len(data) and taken == data:",
+     "first == begin and taken[:len(data)] == data:"),
+    ("equal bytes across parts are a repeat", BOTH,
+     "        for first, length, taken in self.slots[s].parts:\n"
+     "            if begin <",
+     "        held = {p: b for at, _, t in self.slots[s].parts for p, b in enumerate(t, at)}\n"
+     "        if all(held.get(begin + i) == b for i, b in enumerate(data)):\n"
+     "            return True\n"
+     "        for first, length, taken in self.slots[s].parts:\n"
+     "            if begin <"),
+    ("equal bytes from a part's begin to a part's end are a repeat", BOTH,
+     "        for first, length, taken in self.slots[s].parts:\n"
+     "            if begin <",
+     "        held = {p: b for at, _, t in self.slots[s].parts for p, b in enumerate(t, at)}\n"
+     "        if all(held.get(begin + i) == b for i, b in enumerate(data)) and any(p[0] == begin for "
+     "p in self.slots[s].parts) \\\n"
+     "                and any(p[0] + p[1] == begin + len(data) for p in self.slots[s].parts):\n"
+     "            return True\n"
+     "        for first, length, taken in self.slots[s].parts:\n"
+     "            if begin <"),
+    ("equal bytes that end where a part ends are a repeat", BOTH,
+     "first == begin and length == len(data) and taken == data:",
+     "first <= begin and first + length == begin + len(data) and taken.endswith(data):"),
+    ("a slot freed by age keeps its marks", BOTH,
+     "                self.slots[s] = None\n"
+     "        mac = read_mac(frame)\n",
+     "                self.__dict__.setdefault('left', {})[s] = self.slots[s].parts\n"
+     "                self.slots[s] = None\n"
+     "        mac = read_mac(frame)\n",
+     "self.slots[s] = Slot(key, time)\n",
+     "self.slots[s] = Slot(key, time, self.__dict__.setdefault('left', {}).pop(s, []))\n",
+     "        elif self.judge",
+     "        if self.judge"),
+    ("a slot freed by a clash keeps its marks", BOTH,
+     "                self.slots[s] = None\n"
+     "                raise Refused(11)",
+     "                self.__dict__.setdefault('left', {})[s] = self.slots[s].parts\n"
+     "                self.slots[s] = None\n"
+     "                raise Refused(11)",
+     "self.slots[s] = Slot(key, time)\n",
+     "self.slots[s] = Slot(key, time, self.__dict__.setdefault('left', {}).pop(s, []))\n",
+     "        elif self.judge",
+     "        if self.judge"),
+    ("a slot freed by its cover keeps its marks", BOTH,
+     "        out[:size] = datagram\n"
+     "        self.slots[s] = None\n",
+     "        out[:size] = datagram\n"
+     "        self.__dict__.setdefault('left', {})[s] = slot.parts\n"
+     "        self.slots[s] = None\n",
+     "self.slots[s] = Slot(key, time)\n",
+     "self.slots[s] = Slot(key, time, self.__dict__.setdefault('left', {}).pop(s, []))\n",
+     "        elif self.judge",
+     "        if self.judge"),
+    ("elision of the slot's earlier datagrams stays", CALLS,
+     "            slot.elided = elided\n",
+     "            flags = self.__dict__.setdefault('flags', {})\n"
+     "            flags[s] = flags.get(s) or elided\n"
+     "            slot.elided = flags[s]\n"),
+    ("only a part of equal place clashes", BOTH,
+     "if begin < first + length and first < begin + len(data):",
+     "if begin == first:"),
+    ("a clash touches from the next byte on", BOTH,
+     "if begin < first + length and first < begin + len(data):",
+     "if begin <= first + length and first < begin + len(data):"),
+    ("a clash touches before its begin", BOTH,
+     "if begin < first + length and first < begin + len(data):",
+     "if begin < first + length and first <= begin + len(data):"),
+    ("overlap by one unit at the front is harmless", BOTH,
+     "if begin < first + length and first < begin + len(data):",
+     "if begin < first + length - 8 and first < begin + len(data):"),
+    ("a clash leaves the slot", BOTH,
+     "                self.slots[s] = None\n"
+     "                raise Refused(11)",
+     "                raise Refused(11)"),
+    ("a clash frees every slot of the gateway", BOTH,
+     "                self.slots[s] = None\n"
+     "                raise Refused(11)",
+     "                who = self.slots[s].key[0]\n"
+     "                self.slots = [None if x and x.key[0] == who else x for x in self.slots]\n"
+     "                raise Refused(11)"),
+    ("a repeat begins the 60 seconds anew", BOTH,
+     "            return (\"kept\",)\n"
+     "        return self.take(",
+     "            self.slots[s].opened = time\n"
+     "            return (\"kept\",)\n"
+     "        return self.take("),
+    ("a part begins the 60 seconds anew", BOTH,
+     "        slot = self.slots[s]\n"
+     "        place",
+     "        slot = self.slots[s]\n"
+     "        slot.opened = self.last\n"
+     "        place"),
+
+    # Opening.
+    ("reserve ignored", BOTH,
+     "(mine < MOST_SLOTS_EACH and len(free) > others)",
+     "(mine < MOST_SLOTS_EACH and free)"),
+    ("reserve short by one", BOTH, "len(free) > others)", "len(free) >= others)"),
+    ("reserve one too many", BOTH, "len(free) > others)", "len(free) > others + 1)"),
+    ("reserve counts the gateway itself", BOTH,
+     "if g != gateway and self.held(g) == 0)",
+     "if self.held(g) == 0 or g == gateway)"),
+    ("reserve counts others that hold slots", BOTH, "if g != gateway and self.held(g) == 0)", "if g != gateway)"),
+    ("four slots each", BOTH, "MOST_SLOTS_EACH = 3 ", "MOST_SLOTS_EACH = 4 "),
+    ("two slots each", BOTH, "MOST_SLOTS_EACH = 3 ", "MOST_SLOTS_EACH = 2 "),
+    ("highest free slot", CALLS,
+     "        s = free[0]\n",
+     "        s = free[-1]\n"),
+    ("a seventh slot is the last", BOTH, "SLOTS = 8 ", "SLOTS = 7 "),
+    ("12 frees the oldest slot of the gateway", BOTH,
+     "            raise Refused(12)",
+     "            oldest = min((x for x in self.slots if x and x.key[0] == gateway), key=lambda x: x.opened)\n"
+     "            self.slots[self.slots.index(oldest)] = None\n"
+     "            raise Refused(12)"),
+
+    # Time.
+    ("60,001 for 60,000", BOTH, "LIFETIME = 60000 ", "LIFETIME = 60001 "),
+    ("59,999 for 60,000", BOTH, "LIFETIME = 60000 ", "LIFETIME = 59999 "),
+    ("ageing only where no refusal comes before it", CALLS,
+     "        for s in range(SLOTS):\n"
+     "            if self.slots[s] and time - self.slots[s].opened >= LIFETIME:\n"
+     "                self.slots[s] = None\n"
+     "        mac = read_mac(frame)\n",
+     "        mac = read_mac(frame)\n"
+     "        for s in range(SLOTS):\n"
+     "            if self.slots[s] and time - self.slots[s].opened >= LIFETIME:\n"
+     "                self.slots[s] = None\n"),
+    ("ageing before 8", BOTH,
+     "        if time < self.last:\n"
+     "            raise Refused(8)\n"
+     "        self.last = time\n",
+     "        for s in range(SLOTS):\n"
+     "            if self.slots[s] and abs(time - self.slots[s].opened) >= LIFETIME:\n"
+     "                self.slots[s] = None\n"
+     "        if time < self.last:\n"
+     "            raise Refused(8)\n"
+     "        self.last = time\n"),
+    ("an equal time is refused", BOTH, "if time < self.last:", "if time <= self.last and self.last:"),
+    ("a time going back is taken", BOTH, "            raise Refused(8)", "            pass"),
+    ("8 takes the time", BOTH,
+     "            raise Refused(8)",
+     "            self.last = time\n"
+     "            raise Refused(8)"),
+    ("a refused MAC header takes no time", BOTH,
+     "        self.last = time\n",
+     "        before, self.last = self.last, time\n"
+     "        if number_of(read_mac, frame) in (1, 3, 4):\n"
+     "            self.last = before\n"),
+    ("8 before 7", CALLS,
+     "        if len(mem) < LENT_BYTES or len(out) < OUTPUT_BYTES:\n"
+     "            raise Refused(7)\n"
+     "        if time < self.last:\n"
+     "            raise Refused(8)\n",
+     "        if time < self.last:\n"
+     "            raise Refused(8)\n"
+     "        if len(mem) < LENT_BYTES or len(out) < OUTPUT_BYTES:\n"
+     "            raise Refused(7)\n"),
+    ("7 takes the time", CALLS,
+     "            raise Refused(7)\n"
+     "        if time",
+     "            self.last = max(time, self.last)\n"
+     "            raise Refused(7)\n"
+     "        if time"),
+    ("16,383 bytes are enough", CALLS, "LENT_BYTES = 16384 ", "LENT_BYTES = 16383 "),
+    ("an output of 2,046 is enough", CALLS, "OUTPUT_BYTES = 2047 ", "OUTPUT_BYTES = 2046 "),
+    ("an output of 2,048 is needed", CALLS, "OUTPUT_BYTES = 2047 ", "OUTPUT_BYTES = 2048 "),
+    ("time of 32 bits", CALLS,
+     "time - self.slots[s].opened >= LIFETIME",
+     "(time - self.slots[s].opened) % 2 ** 32 >= LIFETIME"),
+
+    # Parts.
+    ("a bad part frees the slot of its key", BOTH,
+     "            raise Refused(10)\n"
+     "\n"
+     "        key = ",
+     "            s = self.find((mac.src, mac.dst, fragment.size, fragment.tag))\n"
+     "            if s is not None:\n"
+     "                self.slots[s] = None\n"
+     "            raise Refused(10)\n"
+     "\n"
+     "        key = "),
+    ("11 before 10", BOTH,
+     "        if len(data) % 8 != 0 and end != fragment.size:\n"
+     "            raise Refused(10)\n",
+     "        if len(data) % 8 != 0 and end != fragment.size:\n"
+     "            s = self.find((mac.src, mac.dst, fragment.size, fragment.tag))\n"
+     "            if s is not None:\n"
+     "                self.judge_against_taken(s, begin, data)\n"
+     "            raise Refused(10)\n"),
+    ("12 before 10", BOTH,
+     "        begin, end = fragment.begin, fragment.begin + len(data)\n",
+     "        begin, end = fragment.begin, fragment.begin + len(data)\n"
+     "        if self.find((mac.src, mac.dst, fragment.size, fragment.tag)) is None and self.held(mac.src) == 3:\n"
+     "            raise Refused(12)\n"),
+    ("sizes from 39", BOTH, "fragment.size < 40", "fragment.size < 39"),
+    ("sizes from 41", BOTH, "fragment.size < 40", "fragment.size < 41"),
+    ("sizes from 48", BOTH, "fragment.size < 40", "fragment.size < 48"),
+    ("any size", BOTH, "fragment.size < 40 or ", ""),
+    ("a part of no bytes is kept", BOTH, "or len(data) == 0 ", ""),
+    ("a later part at offset 0 is taken", BOTH, " or (begin == 0 and not fragment.first)", ""),
+    ("an end one beyond the size", BOTH, "or end > fragment.size:", "or end > fragment.size + 1:"),
+    ("an end at the size is refused", BOTH, "or end > fragment.size:", "or end >= fragment.size:"),
+    ("any length", BOTH,
+     "        if len(data) % 8 != 0 and end != fragment.size:\n"
+     "            raise Refused(10)\n",
+     ""),
+    ("a multiple of 8 at the end too", BOTH,
+     "if len(data) % 8 != 0 and end != fragment.size:",
+     "if len(data) % 8 != 0:"),
+    ("a multiple of 4 is enough", BOTH, "if len(data) % 8 != 0 and", "if len(data) % 4 != 0 and"),
+    ("first parts need no multiple of 8", BOTH,
+     "if len(data) % 8 != 0 and",
+     "if not fragment.first and len(data) % 8 != 0 and"),
+    ("offset as a number of bytes", BOTH, "payload[4] * 8", "payload[4]"),
+    ("size of 10 bits", BOTH, "(payload[0] & 7) << 8", "(payload[0] & 3) << 8"),
+    ("tag of 8 bits", BOTH, "tag = payload[2] << 8 | payload[3]", "tag = payload[3]"),
+    ("a first part that is the whole needs no slot", BOTH,
+     "        s = self.find(key)\n"
+     "        if s is None:\n",
+     "        s = self.find(key)\n"
+     "        if s is None and begin == 0 and end == fragment.size:\n"
+     "            datagram = with_checksum(data) if elided else data\n"
+     "            out[:end] = datagram\n"
+     "            return (\"out\", end)\n"
+     "        if s is None:\n"),
+    ("late repeats are kept without a slot", BOTH,
+     "        if s is None:\n"
+     "            s = self.open(key, time)\n",
+     "        if s is None:\n"
+     "            if getattr(self, 'done', None) == key:\n"
+     "                return (\"kept\",)\n"
+     "            s = self.open(key, time)\n",
+     "        self.slots[s] = None\n"
+     "        return (\"out\", size)",
+     "        self.done = slot.key\n"
+     "        self.slots[s] = None\n"
+     "        return (\"out\", size)"),
+    ("covered when the last part has come", BOTH,
+     "if sum(length for _, length, _ in slot.parts) < size:",
+     "if max(first + length for first, length, _ in slot.parts) < size:"),
+    ("covered when first and last part have come", BOTH,
+     "if sum(length for _, length, _ in slot.parts) < size:",
+     "if not (slot.parts and min(slot.parts)[0] == 0 and max(slot.parts)[0] + max(slot.parts)[1] == size):"),
+    ("covered in units rounded down", BOTH,
+     "if sum(length for _, length, _ in slot.parts) < size:",
+     "if sum(length // 8 for _, length, _ in slot.parts) < size // 8:"),
+    ("the slot stays after the cover", BOTH,
+     "        out[:size] = datagram\n"
+     "        self.slots[s] = None\n",
+     "        out[:size] = datagram\n"),
+
+    # The checksum.
+    ("elision remembered from any part", CALLS,
+     "        if begin == 0:\n"
+     "            slot.elided = elided\n",
+     "        slot.elided = elided\n"),
+    ("elision of the last taking or repeat", CALLS,
+     "        elif self.judge_against_taken(s, begin, data):\n",
+     "        elif self.judge_against_taken(s, begin, data):\n"
+     "            if begin == 0:\n"
+     "                self.slots[s].elided = elided\n"),
+    ("elided never remembered", CALLS,
+     "            slot.elided = elided\n",
+     "            slot.elided = False\n"),
+    ("a carried checksum is computed too", CALLS, "udp is not None and udp.checksum is None)", "udp is not None)"),
+    ("a carried 0 is computed", CALLS,
+     "udp is not None and udp.checksum is None)",
+     "udp is not None and not udp.checksum)"),
+    ("elided and carried 0 are different parts", BOTH,
+     "first == begin and length == len(data) and taken == data:",
+     "first == begin and length == len(data) and taken == data and (begin or self.slots[s].elided == "
+     "self.elided_now):",
+     "        s = self.find(key)\n",
+     "        self.elided_now = elided\n"
+     "        s = self.find(key)\n"),
+    ("0 stays 0", CALLS, "    return checksum or 0xffff", "    return checksum"),
+    ("the odd byte is padded in front", CALLS,
+     "        data = data + b\"\\0\"\n"
+     "    total",
+     "        data = data[:-1] + b\"\\0\" + data[-1:]\n"
+     "    total"),
+    ("the odd byte is left out", CALLS,
+     "        data = data + b\"\\0\"\n"
+     "    total",
+     "        data = data[:-1]\n"
+     "    total"),
+    ("no pseudo-header length", CALLS, "len(upper).to_bytes(4, \"big\")", "bytes(4)"),
+    ("no next header in the pseudo-header", CALLS, "bytes([0, 0, 0, UDP])", "bytes(4)"),
+    ("carry added once", CALLS, "    while total >> 16:", "    if total >> 16:"),
+    ("an unfragmented checksum stays 0", CALLS,
+     "        data = with_checksum(expanded.data) if expanded.elided else expanded.data\n"
+     "        out[:len(data)]",
+     "        data = expanded.data\n"
+     "        out[:len(data)]"),
+
+    # Expansion.
+    ("length of the part for that of the datagram", CALLS,
+     "total = own if size is None else size",
+     "total = own if size is None else max(own, min(own, size))"),
+    ("UDP length without its header", CALLS,
+     "(udp.src_port, udp.dst_port, total - IPV6_HEADER, ",
+     "(udp.src_port, udp.dst_port, total - 48, "),
+    ("ecn and dscp as they come", CALLS, "(iphc.dscp * 4 + iphc.ecn // 64)", "(iphc.ecn + iphc.dscp)"),
+    ("flow label of 20 bits, TF=00", CALLS,
+     "b[0] & 0x3f, b[2] << 8 | b[3]",
+     "b[0] & 0x3f, (b[1] & 15) << 16 | b[2] << 8 | b[3]"),
+    ("flow label of 20 bits, TF=01", CALLS,
+     "ecn, flow = b[0] & 0xc0, b[1] << 8 | b[2]",
+     "ecn, flow = b[0] & 0xc0, (b[0] & 15) << 16 | b[1] << 8 | b[2]"),
+    ("TF=01 takes four bytes", CALLS, "b = reader.take(3)", "b = reader.take(4)"),
+    ("hop limits 1 and 64 changed round", CALLS, "(1, 64, 255)", "(64, 1, 255)"),
+    ("universal/local bit not turned", CALLS, "address[0] ^ 2", "address[0]"),
+    ("extension header refused 2", BOTH,
+     "raise Refused(13)\n"
+     "    if head >> 3",
+     "raise Refused(2)\n"
+     "    if head >> 3"),
+    ("extension header read first (1)", BOTH,
+     "        raise Refused(13)\n"
+     "    if head >> 3",
+     "        reader.take(1 if head & 1 else 2)\n"
+     "        raise Refused(13)\n"
+     "    if head >> 3"),
+    ("destination context from the high half", CALLS,
+     "src_context, dst_context = both >> 4, both & 15",
+     "src_context, dst_context = both >> 4, both >> 4"),
+    ("context halves changed round", CALLS,
+     "src_context, dst_context = both >> 4, both & 15",
+     "src_context, dst_context = both & 15, both >> 4"),
+    ("a shorter context at the end counts", CALLS, "range(len(flat) // 8)", "range((len(flat) + 7) // 8)"),
+    ("a missing context is the link-local prefix", BOTH,
+     "        raise Refused(5)\n",
+     "        return bytes.fromhex(\"fe80000000000000\")\n"),
+    ("5 before 1", BOTH,
+     "    if mode == 0:\n"
+     "        return reader.take(16)\n"
+     "    if mode == 1:\n"
+     "        iid",
+     "    if by_context:\n"
+     "        context(contexts, number)\n"
+     "    if mode == 0:\n"
+     "        return reader.take(16)\n"
+     "    if mode == 1:\n"
+     "        iid"),
+    ("3 before the source step", BOTH,
+     "    if sac and sam == 0:\n",
+     "    if dac and (m or dam == 0):\n"
+     "        raise Refused(3)\n"
+     "    if sac and sam == 0:\n"),
+    ("M=1 with DAC=1 read as without", BOTH, "if dac and (m or dam == 0):", "if dac and dam == 0:"),
+    ("the reserved mode read as inline", BOTH, "if dac and (m or dam == 0):", "if dac and m:"),
+    ("SAC=1 SAM=00 reserved", BOTH,
+     "        src = bytes(16)\n",
+     "        raise Refused(3)\n"),
+    ("CID needs its contexts", BOTH,
+     "        src_context, dst_context = both >> 4, both & 15\n",
+     "        src_context, dst_context = both >> 4, both & 15\n"
+     "        context(contexts, src_context)\n"),
+    ("multicast of 48 bits put one early", CALLS, "bytes(9) + b[1:]", "bytes(8) + b[1:] + bytes(1)"),
+    ("multicast of 32 bits put one early", CALLS, "bytes(11) + b[1:]", "bytes(10) + b[1:] + bytes(1)"),
+    ("ports of 4 bits from f000", CALLS,
+     "0xf0b0 + (both >> 4), 0xf0b0 + (both & 15)",
+     "0xf000 + (both >> 4), 0xf000 + (both & 15)"),
+    ("ports P=01 and P=10 changed round", CALLS,
+     "    elif ports == 1:\n",
+     "    elif ports == 2:\n"
+     "        src = int.from_bytes(reader.take(2), \"big\")\n"
+     "        dst = 0xf000 + reader.byte()\n"
+     "    elif ports == 1:\n"
+     "        src = 0xf000 + reader.byte()\n"
+     "        dst = int.from_bytes(reader.take(2), \"big\")\n"
+     "    elif ports == 9:\n"),
+    ("10 of a first part after 12", BOTH,
+     "    if own > total:\n"
+     "        raise Refused(10)\n",
+     "    if own > total:\n"
+     "        raise Refused(12)\n"),
+
+    # MAC.
+    ("9 before 13", BOTH,
+     "        if mac.secured or mac.frame_type != 1:\n"
+     "            raise Refused(13)\n"
+     "        if mac.src not in self.gateways:\n"
+     "            raise Refused(9)\n",
+     "        if mac.src not in self.gateways:\n"
+     "            raise Refused(9)\n"
+     "        if mac.secured or mac.frame_type != 1:\n"
+     "            raise Refused(13)\n"),
+    ("6 before 9", BOTH,
+     "        if mac.src not in self.gateways:\n"
+     "            raise Refused(9)\n"
+     "        if mac.dst == ABSENT:\n"
+     "            raise Refused(6)\n",
+     "        if mac.dst == ABSENT:\n"
+     "            raise Refused(6)\n"
+     "        if mac.src not in self.gateways:\n"
+     "            raise Refused(9)\n"),
+    ("dispatch before 6", BOTH,
+     "        if mac.dst == ABSENT:\n"
+     "            raise Refused(6)\n"
+     "        payload = frame[mac.length:]\n",
+     "        payload = frame[mac.length:]\n"
+     "        dispatch(payload)\n"
+     "        if mac.dst == ABSENT:\n"
+     "            raise Refused(6)\n"),
+    ("an absent destination is fine", BOTH,
+     "            raise Refused(6)\n"
+     "        payload",
+     "            pass\n"
+     "        payload"),
+    ("secured frames are taken", BOTH, "if mac.secured or mac.frame_type != 1:", "if mac.frame_type != 1:"),
+    ("any frame type is taken", BOTH,
+     "if mac.secured or mac.frame_type != 1:",
+     "if mac.secured or mac.frame_type not in (1, 5):"),
+    ("the security header is not read", BOTH,
+     "    if secured:\n",
+     "    if False:\n"),
+    ("the key identifier is not read", BOTH,
+     "        reader.take((0, 1, 5, 9)[security >> 3 & 3])\n",
+     ""),
+    ("version 3 is read as 2", BOTH, "if version == 3 or dst_mode == 1", "if dst_mode == 1"),
+    ("1 before 3", BOTH,
+     "    if version == 3 or dst_mode",
+     "    if len(frame) < 5:\n"
+     "        raise Refused(1)\n"
+     "    if version == 3 or dst_mode"),
+    ("compression with both absent is read", BOTH,
+     "    if version < 2 and compressed and dst_mode == 0 and src_mode == 0:\n"
+     "        raise Refused(3)\n",
+     ""),
+    ("the Rust's source PAN, versions 0 and 1", BOTH,
+     "return dst != 0, src != 0 and not (dst != 0 and compressed)",
+     "return dst != 0, dst == 0 or (src != 0 and not compressed)"),
+    ("the Rust's source PAN, version 2", BOTH,
+     "        return False, not compressed\n"
+     "    if dst == 3",
+     "        return False, True\n"
+     "    if dst == 3"),
+    ("version 2 as version 1", BOTH,
+     "    if version < 2:\n"
+     "        return dst",
+     "    if version < 3:\n"
+     "        return dst"),
+    ("version 2, both extended, uncompressed: both PANs", CALLS,
+     "        return not compressed, False\n"
+     "    return True, not compressed",
+     "        return not compressed, not compressed\n"
+     "    return True, not compressed"),
+    ("frames of 128 bytes", CALLS, "LONGEST_FRAME = 127 ", "LONGEST_FRAME = 128 "),
+    ("frames of 126 bytes", BOTH, "LONGEST_FRAME = 127 ", "LONGEST_FRAME = 126 "),
+    ("addresses most significant byte first", BOTH,
+     "    return reader.take(size)[::-1]",
+     "    return reader.take(size)"),
+    ("plain IPv6 is read as IPHC", BOTH,
+     "    if payload[0] >> 5 == 0b011:\n"
+     "        return",
+     "    if payload[0] >> 5 in (0b011, 0b010):\n"
+     "        return"),
+
+    # Gateways.
+    ("five gateways", CALLS, "MOST_GATEWAYS = 4 ", "MOST_GATEWAYS = 5 "),
+    ("three gateways", CALLS, "MOST_GATEWAYS = 4 ", "MOST_GATEWAYS = 3 "),
+    ("two equal gateways", CALLS, " or len(set(gateways)) != len(gateways)", ""),
+    ("an absent gateway", CALLS, " or ABSENT in gateways", ""),
+    ("short and extended of one number are equal", CALLS,
+     "len(set(gateways))",
+     "len(set(int.from_bytes(g, 'big') for g in gateways))"),
+
+    # Captures.
+    ("frame check not tested", CAPTURES,
+     "    if int.from_bytes(block[510:512], \"little\") != fcs(block[:510]):\n"
+     "        raise Refused(15)\n",
+     ""),
+    ("frame check from ffff", CAPTURES,
+     "    value = 0\n"
+     "    for byte in data:",
+     "    value = 0xffff\n"
+     "    for byte in data:"),
+    ("frame check most significant byte first", CAPTURES,
+     "int.from_bytes(block[510:512], \"little\")",
+     "int.from_bytes(block[510:512], \"big\")"),
+    ("frame check of either order", CAPTURES,
+     "    if int.from_bytes(block[510:512], \"little\") != fcs(block[:510]):",
+     "    if fcs(block[:510]) not in (int.from_bytes(block[510:512], \"little\"), "
+     "int.from_bytes(block[510:512], \"big\")):"),
+    ("block number not tested", CAPTURES,
+     "    if int.from_bytes(block[0:4], \"little\") != number:\n"
+     "        raise Refused(15)\n",
+     ""),
+    ("block number of 16 bits", CAPTURES,
+     "int.from_bytes(block[0:4], \"little\") != number",
+     "int.from_bytes(block[0:2], \"little\") != number"),
+    ("block number of 24 bits", CAPTURES,
+     "int.from_bytes(block[0:4], \"little\") != number",
+     "int.from_bytes(block[0:3], \"little\") != number"),
+    ("block number most significant byte first", CAPTURES,
+     "int.from_bytes(block[0:4], \"little\") != number",
+     "int.from_bytes(block[0:4], \"big\") != number"),
+    ("count 4 is 3", CAPTURES, "if count > PLACES or", "if count > PLACES + 1 or"),
+    ("byte 5 not tested", CAPTURES, " or block[5] != 0", ""),
+    ("zeros behind the places not tested", CAPTURES, " or any(block[6 + PLACES * PLACE:510])", ""),
+    ("zeros tested to 508", CAPTURES, "block[6 + PLACES * PLACE:510]", "block[6 + PLACES * PLACE:509]"),
+    ("zeros tested from 403", CAPTURES, "block[6 + PLACES * PLACE:510]", "block[7 + PLACES * PLACE:510]"),
+    ("unused places not tested", CAPTURES,
+     "            if any(place):\n"
+     "                raise Refused(15)\n",
+     ""),
+    ("the time of an unused place not tested", CAPTURES,
+     "            if any(place):\n",
+     "            if any(place[4:]):\n"),
+    ("the length of an unused place not tested", CAPTURES,
+     "            if any(place):\n",
+     "            if any(place[:4] + place[5:]):\n"),
+    ("bytes behind a frame not tested", CAPTURES, " or any(place[5 + length:])", ""),
+    ("length over 127 cut", CAPTURES, "if length > LONGEST_FRAME or any(", "if any("),
+    ("a place of length 0 is skipped", CAPTURES,
+     "        frames.append(",
+     "        if length == 0:\n"
+     "            continue\n"
+     "        frames.append("),
+    ("a short last block is ignored", CAPTURES,
+     "for number in range((len(capture) + BLOCK - 1) // BLOCK):",
+     "for number in range(len(capture) // BLOCK):"),
+    ("a short last block is filled with zeros", CAPTURES,
+     "    if len(block) != BLOCK:\n"
+     "        raise Refused(15)\n",
+     "    block = block.ljust(BLOCK, b\"\\0\")\n"),
+    ("reading goes on after a bad block", CAPTURES,
+     "            lines.append(f\"block {number} no {refused.number}\")\n"
+     "            break\n",
+     "            lines.append(f\"block {number} no {refused.number}\")\n"
+     "            continue\n"),
+    ("a bad block is numbered from 1", CAPTURES,
+     "lines.append(f\"block {number} no",
+     "lines.append(f\"block {number + 1} no"),
+    ("a bad block is named by its field", CAPTURES,
+     "lines.append(f\"block {number} no",
+     "lines.append(f\"block {int.from_bytes(capture[512 * number:512 * number + 4], 'little')} no"),
+    ("no end after a bad block", CAPTURES,
+     "            break\n"
+     "        for time",
+     "            return lines\n"
+     "        for time"),
+    ("frames are numbered anew in each block", CAPTURES,
+     "        for time, frame in frames:\n"
+     "            count += 1\n"
+     "            lines.append(f\"{count} ",
+     "        for n, (time, frame) in enumerate(frames, 1):\n"
+     "            count += 1\n"
+     "            lines.append(f\"{n} "),
+    ("end counts blocks", CAPTURES,
+     "lines.append(f\"end {count}\")",
+     "lines.append(f\"end {len(capture) // 512}\")"),
+    ("a fresh table for each block", CAPTURES,
+     "        for time, frame in frames:\n"
+     "            count",
+     "        table = Table(table.gateways)\n"
+     "        for time, frame in frames:\n"
+     "            count"),
+    ("three gateways in heard", CAPTURES, "for n in (1, 2, 3, 4)]", "for n in (1, 2, 3)]"),
+    ("time of 16 bits", CAPTURES,
+     "int.from_bytes(place[0:4], \"little\")",
+     "int.from_bytes(place[0:2], \"little\")"),
+]
+
+
+def load(name, *edits):
+    """model.py with one reading changed: `edits` are pieces of its text and what stands for each."""
+    path = os.path.join(os.path.dirname(os.path.abspath(__file__)), "model.py")
+    with open(path) as file:
+        text = file.read()
+    for old, new in zip(edits[::2], edits[1::2]):
+        if text.count(old) != 1:
+            sys.exit(f"mutant '{name}': its text occurs {text.count(old)} times in model.py")
+        text = text.replace(old, new)
+    module = types.ModuleType("mutant")
+    sys.modules["mutant"] = module
+    exec(compile(text, f"mutant {name}", "exec"), module.__dict__)
+    return module
+
+
+class Known:
+    """What the generators make and model.py answers, kept so that each mutant costs only its own answers."""
+
+    def __init__(self, make, answer):
+        self.make, self.answer, self.pairs = make, answer, []
+
+    def pair(self, number):
+        while len(self.pairs) <= number:
+            made = self.make(len(self.pairs))
+            self.pairs.append((made, self.answer(made)))
+        return self.pairs[number]
+
+    def first(self, answer, count):
+        for number in range(count):
+            made, right = self.pair(number)
+            try:
+                given = answer(made)
+            except (IndexError, ValueError, OverflowError) as error:
+                given = str(error)
+            if given != right:
+                return number
+        return None
+
+
+def main():
+    parser = argparse.ArgumentParser(description="do captures.py and calls.py tell model.py from its mutants?")
+    parser.add_argument("--count", type=int, default=10000)
+    parser.add_argument("--seed", type=int, default=1)
+    parser.add_argument("names", nargs="*", help="only these mutants")
+    given = parser.parse_args()
+    known_captures = Known(lambda n: captures.encode(captures.make(given.seed, n)), model.heard)
+    known_calls = Known(lambda n: calls.make(given.seed, n), calls.expected)
+    through = 0
+    chosen = [mutant for mutant in MUTANTS if not given.names or mutant[0] in given.names]
+    for name, faces, *edits in chosen:
+        mutant = load(name, *edits)
+        in_captures = known_captures.first(mutant.heard, given.count) if faces != CALLS else None
+        in_calls = known_calls.first(lambda lines: calls.expected(lines, mutant), given.count) if faces != CAPTURES else None
+        missing = (in_captures is None and faces != CALLS) or (in_calls is None and faces != CAPTURES)
+        through += missing
+
+        def shown(number, face):
+            return "-" if faces == face else "NOT NOTICED" if number is None else str(number)
+        print(f"{name:<56} capture {shown(in_captures, CALLS):>11}   run {shown(in_calls, CAPTURES):>11}", flush=True)
+    print(f"{len(chosen)} mutants, {through} get through")
+    sys.exit(1 if through else 0)
+
+
+if __name__ == "__main__":
+    main()

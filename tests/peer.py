@@ -1,0 +1,188 @@
+"""Compares model.py with tshark. Started by `peer`, which README.md describes.
+
+Frames of random datagrams are written as a pcap file of link type 230 (IEEE 802.15.4 without frame check). tshark
+decompresses and puts together what it finds there; model.py takes the same frames. Each datagram that model.py hands out
+is compared byte by byte with the bytes that tshark shows for the same frame, and with the datagram that was cut. Then
+all datagrams with an elided checksum are written as a pcap file of plain IPv6, and tshark judges model.py's checksums.
+"""
+
+import argparse
+import os
+import random
+import re
+import struct
+import subprocess
+import sys
+import tempfile
+
+import frames as f
+import model
+import scenes
+
+GATEWAYS = [f.short(1), f.short(0x0203), f.extended(0x0011223344556677), f.extended(0x020000fffe001234)]
+DESTINATIONS = [f.BROADCAST, f.short(0xabcd), f.extended(0xa1a2a3a4a5a6a7a8)]
+CONTEXTS = [f.ip("2001:db8:1:2::")[:8], f.ip("fd00:aaaa:bbbb:cccc::")[:8], f.ip("2001:db8:ffff:1::")[:8]]
+WORLD = scenes.World(GATEWAYS, [f.short(9)], DESTINATIONS, CONTEXTS)
+IEEE802154_NOFCS, IPV6 = 230, 229
+
+
+def pcap(path, link_type, packets):
+    with open(path, "wb") as file:
+        file.write(struct.pack("<IHHiIII", 0xa1b2c3d4, 2, 4, 0, 0, 65535, link_type))
+        for i, (time, data) in enumerate(packets):
+            file.write(struct.pack("<IIII", time // 1000, time % 1000 * 1000, len(data), len(data)) + data)
+
+
+def tshark(path, *arguments):
+    command = ["tshark", "-n", "-r", path]
+    for i, prefix in enumerate(CONTEXTS):
+        text = ":".join(prefix[j:j + 2].hex() for j in range(0, 8, 2))
+        command += ["-o", f"6lowpan.context{i}:{text}::/64"]
+    done = subprocess.run(command + list(arguments), stdout=subprocess.PIPE, stderr=subprocess.PIPE)
+    if done.returncode != 0:
+        sys.exit("tshark: " + done.stderr.decode())
+    return done.stdout.decode()
+
+
+def hex_dumps(text):
+    """For each packet of `tshark -x` its pieces: (name, bytes). A packet of one piece has no name."""
+    packets, pieces, data = [], [], None
+    for line in text.split("\n"):
+        title = re.fullmatch(r"(.*) \((\d+) bytes\):", line)
+        if title:
+            data = bytearray()
+            pieces.append((title.group(1), data))
+        elif re.match(r"[0-9a-f]{4,}  ", line):
+            if data is None:
+                data = bytearray()
+                pieces.append(("Frame", data))
+            data += bytes.fromhex(line.split("  ")[1])
+        elif line == "" and pieces:
+            packets.append(pieces)
+            pieces, data = [], None
+    return packets
+
+
+class Sent:
+    """A datagram, the frames that carry it, and whether its checksum is elided in them."""
+
+    def __init__(self, rng, tag):
+        src, dst = rng.choice(GATEWAYS), rng.choice(DESTINATIONS)
+        k = scenes.knobs(rng, WORLD)
+        if "choose" in k:
+            drawn = rng.randrange(1 << 30)
+            k["choose"] = lambda forms: forms[drawn % len(forms)]
+        size = rng.choice((40, 41, 48, 49, 2047, rng.randrange(40, 120), rng.randrange(120, 700), rng.randrange(40, 2048)))
+        self.datagram = self.suitable(scenes.packet(rng, WORLD, src, dst, size))
+        compressed, covered = f.compress(self.datagram, src, dst, **k)
+        self.nhc = covered == 48
+        self.elided = self.nhc and k["elide"]
+        if self.elided:
+            # The sender may elide only a right checksum.
+            udp = self.datagram[40:46] + b"\0\0" + self.datagram[48:]
+            right = f.udp_checksum(self.datagram[8:24], self.datagram[24:40], udp)
+            self.datagram = self.datagram[:46] + struct.pack(">H", right) + self.datagram[48:]
+            compressed, covered = f.compress(self.datagram, src, dst, **k)
+        version, compress_pan = rng.choice((0, 1, 2)), rng.random() < 0.8
+
+        def head(sequence):
+            return f.mac(src, dst, sequence, version=version, compress=compress_pan)
+        room = 125 - len(head(0))
+        if len(compressed) + len(self.datagram) - covered <= room and rng.random() < 0.8:
+            self.frames = [head(0) + compressed + self.datagram[covered:]]
+            self.kind = "whole"
+        else:
+            parts = f.cut(self.datagram, tag, src, dst, room, step=rng.choice((None, None, 48, 64, 8 if size < 200 else 80)), **k)
+            self.frames = [head(i) + part.payload for i, part in enumerate(parts)]
+            self.kind = f"{'elided' if self.elided else 'carried' if self.nhc else 'plain'} parts"
+            if rng.random() < 0.5:
+                rng.shuffle(self.frames)
+        self.src = src
+
+    @staticmethod
+    def suitable(datagram):
+        """A flow label of 16 bits: the product keeps no more (a listed difference)."""
+        word = int.from_bytes(datagram[:4], "big") & 0xfff0ffff
+        return struct.pack(">I", word) + datagram[4:]
+
+
+def send(rng, count):
+    """Frames of `count` datagrams, each with its own tag, two gateways at a time woven together."""
+    sent, order = [], []
+    for i in range(0, count, 2):
+        one, other = Sent(rng, i), Sent(rng, i + 1)
+        while other.src == one.src:
+            other = Sent(rng, i + 1)
+        sent += [one, other]
+        order += scenes.interleave(rng, [[(one, frame) for frame in one.frames], [(other, frame) for frame in other.frames]])
+    return sent, order
+
+
+def compare(sent, order, shown):
+    """What model.py hands out against tshark's bytes for the same frame, and against what was sent."""
+    table = model.Table(GATEWAYS)
+    mem, out = bytearray(model.LENT_BYTES), bytearray(model.OUTPUT_BYTES)
+    handed, wrong, tally = [], 0, {}
+    for i, (one, frame) in enumerate(order):
+        answer = table.call(i, frame, b"".join(CONTEXTS), mem, out)
+        pieces = [piece for piece in shown[i] if piece[0] != "Frame"]
+        whole = [bytes(data) for name, data in pieces if name.startswith("Reassembled")]
+        if not whole and one.kind == "whole":
+            whole = [bytes(data) for name, data in pieces if name.startswith("Decompressed")][:1]
+        if answer[0] != "out":
+            if answer != ("kept",) or whole:
+                wrong += 1
+                print(f"frame {i} ({one.kind}): model.py {answer}, tshark {len(whole)} datagrams; {frame.hex()}")
+            continue
+        ours = bytes(out[:answer[1]])
+        handed.append((one, ours))
+        tally[one.kind] = tally.get(one.kind, 0) + 1
+        theirs = whole[0] if whole else b""
+        judged = ours
+        if one.elided:
+            # tshark writes ffff where the checksum is elided.
+            judged = ours[:46] + b"\xff\xff" + ours[48:]
+        if judged != theirs or ours != one.datagram:
+            wrong += 1
+            print(f"frame {i} ({one.kind}): {frame.hex()}\n  sent   {one.datagram.hex()}\n  model  {ours.hex()}\n"
+                  f"  tshark {theirs.hex()}")
+    if len(handed) != len(sent):
+        wrong += 1
+        print(f"{len(sent)} datagrams sent, {len(handed)} handed out")
+    return handed, wrong, tally
+
+
+def judge_checksums(handed, folder):
+    """tshark's own judgement of the checksums that model.py computed, and of the same ones with a bit turned."""
+    path = os.path.join(folder, "checksums.pcap")
+    right = [ours for one, ours in handed if one.elided]
+    turned = [ours[:47] + bytes([ours[47] ^ 1]) + ours[48:] for ours in right]
+    pcap(path, IPV6, [(i, data) for i, data in enumerate(right + turned)])
+    lines = tshark(path, "-o", "udp.check_checksum:TRUE", "-T", "fields", "-e", "udp.checksum.status").split("\n")[:-1]
+    good = [line in ("1", "Good") for line in lines]
+    return len(right), sum(good[:len(right)]), sum(good[len(right):])
+
+
+def main():
+    parser = argparse.ArgumentParser(description="model.py against tshark")
+    parser.add_argument("--count", type=int, default=400)
+    parser.add_argument("--seed", type=int, default=1)
+    given = parser.parse_args()
+    rng = random.Random(f"peer {given.seed}")
+    sent, order = send(rng, given.count)
+    with tempfile.TemporaryDirectory() as folder:
+        path = os.path.join(folder, "frames.pcap")
+        pcap(path, IEEE802154_NOFCS, [(i, frame) for i, (_, frame) in enumerate(order)])
+        shown = hex_dumps(tshark(path, "-x"))
+        if len(shown) != len(order):
+            sys.exit(f"{len(order)} frames, tshark shows {len(shown)}")
+        handed, wrong, tally = compare(sent, order, shown)
+        elided, good, turned = judge_checksums(handed, folder)
+    kinds = ", ".join(f"{count} {kind}" for kind, count in sorted(tally.items()))
+    print(f"{len(order)} frames, {len(handed)} datagrams ({kinds}): {wrong} differ from tshark")
+    print(f"{elided} computed checksums: tshark finds {good} right; with a bit turned it finds {turned} right")
+    sys.exit(1 if wrong or good != elided or turned else 0)
+
+
+if __name__ == "__main__":
+    main()
