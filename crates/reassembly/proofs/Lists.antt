@@ -6,12 +6,14 @@ use native.Mathlib.Omega.{arith}
 use mathlib.Core.Path.{_≡_, refl, sym, ap, _∙_}
 use mathlib.Core.Logic.{_⊎_, inl, inr}
 use mathlib.Core.Bool.{Bool, true, false, not, _&&_, _||_, false≢true}
-use mathlib.Core.List.{List, [], _∷_, _++_, map}
+use mathlib.Core.List.{List, [], _∷_, _++_, map, append-assoc}
 use lib.ListN.{length, getD, set, take, drop, replicate, length-set, length-map}
-use lib.Seq.{getD-set-same, getD-set-other, sets, drop-cons, drop-length, take-suc}
+use lib.Seq.{getD-set-same, getD-set-other, sets, sets-eq, drop-cons, drop-length}
 use lib.Dec.{eqb}
 use borrow.Author.Tests.{eqb-true, eq-eqb, ne-eqb}
 use Rattle.octets.specs.Read.{choose}
+use Rattle.octets.specs.Write.{put}
+use Rattle.expand.proofs.CopyLaws.{put-inside}
 use Rattle.reassembly.specs.Lists.{bit, count, firstAt, those, sameList}
 use Rattle.reassembly.proofs.Tests.{by-test, by-order, and-left, and-right, and-both}
 
@@ -58,14 +60,9 @@ module _ {A : Type 0} where
       getD-sets-in vs (set l i a) (suc i) x d (omega arith) (omega arith) (omega (arith, length-set l i a))
       ∙ rw z refl)
 
--- what is left to store after one element: a loop that copies is here after j turns
-pub store-more : (l v : List ℕ) (at j : ℕ) → j < length v → sets l (at + j) (drop j v) ≡ sets (set l (at + j) (getD v j 0)) (at + (j + 1)) (drop (j + 1) v)
-store-more l v at j h =
-    let n : at + (j + 1) ≡ suc (at + j) = omega arith in
-    rw (n, add-one, drop-cons v j 0 h)
-
-pub store-end : (l v : List ℕ) (at j : ℕ) → length v ≡ j → sets l at (drop j v) ≡ l
-store-end l v at j h = rw (drop-end v j h)
+-- bytes put inside the room are such a run
+pub put-sets : (at : ℕ) (bs l : List ℕ) → at + length bs ≤ length l → put at bs l ≡ sets l at bs
+put-sets at bs l h = put-inside at bs l h ∙ sym (append-assoc (take at l) bs (drop (at + length bs) l)) ∙ sym (sets-eq bs l at h)
 
 -- ---- equal lists
 

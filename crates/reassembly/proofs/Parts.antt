@@ -1,14 +1,23 @@
 -- A part and one slot: what the functions on one slot do, answer by answer.
-use Prim.Native.Nat.{ℕ, _+_, _*_, _≤_}
+use Prim.Native.Nat.{ℕ, _+_, _*_, _≤_, _<_}
 use mathlib.Core.Path.{_≡_, refl, sym, ap, _∙_}
 use mathlib.Core.Bool.{Bool, true, false}
-use mathlib.Core.List.{List}
-use lib.ListN.{length, take}
-use lib.Seq.{sets, length-take-le, length-sets}
+use mathlib.Core.List.{List, _++_}
+use lib.ListN.{length, take, drop}
+use lib.Seq.{length-take-le}
+use lib.Dec.{leb}
+use borrow.Author.Tests.{le-leb, lt-leb}
+use native.Mathlib.Omega.{arith}
+use Rattle.octets.specs.Write.{put}
+use Rattle.octets.proofs.Puts.{put-front}
+use Rattle.expand.specs.Sum.{summed, summedIn}
+use Rattle.expand.proofs.CopyLaws.{length-put}
+use Rattle.expand.proofs.SumLaws.{too-short, summed-front}
+use Rattle.expand.proofs.ExpandLaws.{length-summed}
 use Rattle.octets.specs.declared.refusal.Refusal.{Refusal}
 use Rattle.reassembly.specs.Slots.{freeSlot}
 use Rattle.reassembly.specs.Parts.{Part, partOf, Reply, kept, out, refused, repeats, touches, takenIn, taken, written, full, finish, Put, place, offer, Does}
-use Rattle.reassembly.proofs.Tests.{by-test}
+use Rattle.reassembly.proofs.Tests.{by-test, by-order}
 use Rattle.reassembly.specs.declared.slot.Key.{Key}
 use Rattle.reassembly.specs.declared.slot.Slot.{Slot}
 use Rattle.reassembly.specs.declared.part.Outcome.{Outcome}
@@ -25,7 +34,24 @@ place-key s b k k′ u e bs = refl
 
 pub length-finish : (e : Bool) (d : List ℕ) → length (finish e d) ≡ length d
 unfolding finish
-length-finish e d = refl
+length-finish true d = by-test (leb 48 (length d)) (λ h. rw h (length-summed d)) (λ h. rw h)
+length-finish false d = refl
+
+-- the datagram d at the output's start, and what is computed in it there
+pub hand-plain : (d o : List ℕ) → put 0 d o ≡ put 0 (finish false d) o
+unfolding finish
+hand-plain d o = refl
+
+pub hand-summed : (n : ℕ) (d o : List ℕ) → length d ≡ n → n ≤ 2047 → n ≤ length o → summedIn n (put 0 d o) ≡ put 0 (finish true d) o
+unfolding finish
+hand-summed n d o l s h = by-order 48 n
+    (λ q.
+    let r : leb 48 (length d) ≡ true = le-leb 48 (length d) (omega arith) in
+    rw r (ap (summedIn n) (put-front d o (omega arith)) ∙ summed-front n d (drop (length d) o) l q (omega arith)
+    ∙ ap (λ (k : ℕ). summed d ++ drop k o) (sym (length-summed d)) ∙ sym (put-front (summed d) o (omega (arith, length-summed d)))))
+    (λ q.
+    let r : leb 48 (length d) ≡ false = lt-leb 48 (length d) (omega arith) in
+    rw r (sym (too-short n (put 0 d o) q)))
 
 taken-size : (s : Slot) (p : Part) → taken s p .key .size ≡ s .key .size
 unfolding takenIn
@@ -42,11 +68,11 @@ module _ (s : Slot) (b : List ℕ) (p : Part) where
   place-kept e = rw e
 
   pub does-full : (t f : Slot) (b′ o o′ : List ℕ) → b′ ≡ written b p → t ≡ taken s p → full t ≡ true → s .key .size ≤ length b → f ≡ freeSlot
-      → o′ ≡ sets o 0 (finish (t .elided) (take (t .key .size) b′))
+      → o′ ≡ put 0 (finish (t .elided) (take (t .key .size) b′)) o
       → Does (record { outcome = Outcome.Out (t .key .size); slot = f }) b′ o o′ (place s b p)
   does-full t f b′ o o′ eb et ef h q eo =
       let n : length (finish (taken s p .elided) (take (taken s p .key .size) (written b p))) ≡ taken s p .key .size =
-      length-finish _ _ ∙ length-take-le (taken s p .key .size) (written b p) (rw (taken-size s p, length-sets b (p .unit * 8) (p .bytes)) h) in
+      length-finish _ _ ∙ length-take-le (taken s p .key .size) (written b p) (rw (taken-size s p, length-put (p .unit * 8) (p .bytes) b) h) in
       rw (place-full (rw (← et) ef)) record {
         answer = ap out (rw et (sym n));
         slot = q;
@@ -74,7 +100,7 @@ module _ (s : Slot) (b : List ℕ) (p : Part) where
 -- ---- a slot keeps its 2,048 bytes
 
 length-written : (b : List ℕ) (p : Part) → length (written b p) ≡ length b
-length-written b p = length-sets b (p .unit * 8) (p .bytes)
+length-written b p = length-put (p .unit * 8) (p .bytes) b
 
 pub place-length : (s : Slot) (b : List ℕ) (p : Part) → length ((place s b p) .bytes) ≡ length b
 unfolding place

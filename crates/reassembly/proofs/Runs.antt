@@ -6,7 +6,7 @@ use mathlib.Core.Logic.{_≢_, _⊎_, inl, inr}
 use mathlib.Core.Bool.{Bool, true, false, not, _&&_}
 use mathlib.Core.List.{List, [], _∷_, _++_, append-nil}
 use lib.ListN.{length, getD, set, take, drop, replicate, length-set, length-replicate, length-append}
-use lib.Seq.{getD-set-same, getD-set-other, length-sets}
+use lib.Seq.{getD-set-same, getD-set-other}
 use lib.Dec.{ltb}
 use borrow.Author.Tests.{ltb-true, ltb-false, lt-ltb, le-ltb, le-leb, leb-true}
 use Rattle.octets.specs.Read.{choose}
@@ -234,7 +234,7 @@ unfolding land withSlots
 land-other k σ i s b t j o r G H y lj lb d = record {
   low = H .low;
   slot = getD-set-other (slotsAt t σ) j i (r .slot) freeSlot d ∙ held-at k σ i s b t G H y;
-  mem = chunk-other (σ .mem) j i (r .bytes) (omega (arith, H .low, G .room)) lb (λ e. d (sym e)) ∙ H .mem;
+  mem = chunk-other (σ .mem) j i (r .bytes) (omega (arith, lj, G .room)) (omega (arith, H .low, G .room)) lb (λ e. d (sym e)) ∙ H .mem;
   key = H .key;
 }
 

@@ -4,10 +4,11 @@ use mathlib.Core.Path.{_≡_}
 use mathlib.Core.Bool.{Bool, true, false, not, _&&_, _||_}
 use mathlib.Core.List.{List}
 use lib.ListN.{length, getD, take, drop}
-use lib.Seq.{sets}
 use lib.Dec.{eqb, leb}
 use Rattle.octets.specs.Read.{choose}
+use Rattle.octets.specs.Write.{put}
 use Rattle.octets.specs.Refusal.{numberOf}
+use Rattle.expand.specs.Sum.{summed}
 use Rattle.marks.specs.Marks.{hasIn, fill, unpack, pack}
 use Rattle.reassembly.specs.Lists.{sameList}
 use Rattle.reassembly.specs.Slots.{freeSlot}
@@ -46,7 +47,7 @@ ofOutcome (Outcome.Refused e) = refused (numberOf e)
 -- the output after a call: a datagram stands at its start, and nothing else of it changes
 abbrev pub outputAfter : Reply (List ℕ) → List ℕ → List ℕ
 outputAfter kept o = o
-outputAfter (out d) o = sets o 0 d
+outputAfter (out d) o = put 0 d o
 outputAfter (refused n) o = o
 
 -- ---- a part
@@ -97,14 +98,14 @@ taken s p = takenIn s (p .unit) (p .elided) (length (p .bytes))
 
 -- the slot's bytes with the part's at their place
 abbrev pub written : List ℕ → Part → List ℕ
-written b p = sets b (p .unit * 8) (p .bytes)
+written b p = put (p .unit * 8) (p .bytes) b
 
 unfoldable pub full : Slot → Bool
 full s = not (hasIn false (unpack (s .covered)) 0 (units (s .key .size)))
 
--- the datagram handed out: an elided checksum is computed
+-- the datagram handed out: an elided checksum is computed, in a datagram long enough to have one
 unfoldable pub finish : Bool → List ℕ → List ℕ
-finish e d = d
+finish e d = choose (e && leb 48 (length d)) (summed d) d
 
 -- what a part comes to in a slot: the answer, the record, the slot's bytes, how many slots ended, and whether it was taken
 pub record Put : Type 0 where

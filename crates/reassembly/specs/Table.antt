@@ -5,9 +5,9 @@ use mathlib.Core.Path.{_≡_}
 use mathlib.Core.Bool.{Bool, true, false, _&&_, _||_}
 use mathlib.Core.List.{List, [], _∷_}
 use lib.ListN.{length, getD, set, take, drop}
-use lib.Seq.{sets}
 use lib.Dec.{ltb, eqb}
 use Rattle.octets.specs.Read.{choose}
+use Rattle.octets.specs.Write.{put}
 use Rattle.reassembly.specs.Lists.{count, firstAt}
 use Rattle.reassembly.specs.Slots.{sameKey, owner, freeSlot, opened, isFree, isKey, expired, expire, gatesOf, isGate, mayOpen}
 use Rattle.reassembly.specs.Parts.{Part, Reply, kept, out, refused, told, ofOutcome, outputAfter, fits, Put, place, offer}
@@ -42,7 +42,7 @@ unfoldable pub chunk : ℕ → List ℕ → List ℕ
 chunk i m = take 2048 (drop (i * 2048) m)
 
 unfoldable pub splice : List ℕ → ℕ → List ℕ → List ℕ
-splice m i b = sets m (i * 2048) b
+splice m i b = put (i * 2048) b m
 
 -- ---- the table
 -- the table with these slots, its last time t

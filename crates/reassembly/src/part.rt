@@ -3,13 +3,15 @@ ghost use mathlib.Core.Path.{_≡_};
 ghost use mathlib.Core.Bool.{true, false};
 ghost use Prim.Native.Nat.{_+_, _*_, _<_, _≤_};
 ghost use lib.ListN.{length, take};
-ghost use lib.Seq.{sets};
 ghost use lib.Dec.{eqb};
 ghost use Rattle.octets.specs.Read.{choose};
+ghost use Rattle.octets.specs.Write.{put};
 ghost use Rattle.marks.specs.Marks.{unpack, hasIn};
 ghost use Rattle.reassembly.specs.Lists.{sameList};
 ghost use Rattle.reassembly.specs.Parts.{partOf, units, fitsIn, spans, repeatsIn, takenIn, full, finish, place, offer, Ready, Does};
 use super::slot::Slot;
+use expand::checksum::put_checksum;
+use expand::copy::put_part;
 use octets::refusal::Refusal;
 use sixlowpan::frag::Units;
 
@@ -24,18 +26,6 @@ pub enum Outcome {
 pub struct InSlot {
     pub outcome: Outcome,
     pub slot: Slot,
-}
-
-// Writes src into dst from a place on, and nothing else.
-fn copy_at(dst: &mut [u8], at: usize, src: &[u8])
-    requires { ⌜ at + length (now src) ≤ length (now dst) ⌝ }
-    ensures { λ _. ⌜ now (dst .exit) ≡ sets (now (dst .entry)) at (now (src .entry)) ⌝ }
-{
-    let mut i: usize = 0;
-    while i < src.len() {
-        dst[at + i] = src[i];
-        i = i + 1;
-    }
 }
 
 fn same_bytes(a: &[u8], b: &[u8]) -> bool
@@ -168,12 +158,15 @@ fn is_full(s: Slot) -> bool
     !marks::has_mark(covered, false, 0, units_of(k.size as usize))
 }
 
-// The datagram goes to the output's start.
+// The datagram goes to the output's start, its checksum computed where it was elided.
 fn hand_out(room: &[u8], size: usize, elided: bool, out: &mut [u8])
-    requires { ⌜ (size ≤ length (now room)) × (size ≤ length (now out)) ⌝ }
-    ensures { λ _. ⌜ now (out .exit) ≡ sets (now (out .entry)) 0 (finish elided (take size (now (room .entry)))) ⌝ }
+    requires { ⌜ (size ≤ 2047) × (size ≤ length (now room)) × (size ≤ length (now out)) ⌝ }
+    ensures { λ _. ⌜ now (out .exit) ≡ put 0 (finish elided (take size (now (room .entry)))) (now (out .entry)) ⌝ }
 {
-    copy_at(out, 0, &room[0..size]);
+    put_part(out, 0, room, 0, size);
+    if elided {
+        put_checksum(out, size);
+    }
 }
 
 // Takes a part that touches nothing taken: its bytes are written at their place and its units marked. Full cover hands the
@@ -189,7 +182,7 @@ pub(crate) fn place_part(
     requires { ⌜ Ready (s .key .size) (offset .0) (now part) (now room) (now out) ⌝ }
     ensures { λ r. ⌜ Does r (now (room .exit)) (now (out .entry)) (now (out .exit)) (place s (now (room .entry)) (partOf (s .key) (offset .0) elided (now (part .entry)))) ⌝ }
 {
-    copy_at(room, offset.bytes(), part);
+    put_part(room, offset.bytes(), part, 0, part.len());
     let slot = with_part(s, offset, elided, part.len());
     if is_full(slot) {
         let k = slot.key;
