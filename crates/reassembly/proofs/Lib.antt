@@ -6,3 +6,4 @@ pub mod Gateways
 pub mod Memory
 pub mod Runs
 pub mod Answers
+pub mod Fresh

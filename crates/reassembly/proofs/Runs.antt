@@ -14,7 +14,7 @@ use Rattle.reassembly.specs.Lists.{bit, count, firstAt, those}
 use Rattle.reassembly.specs.Slots.{noNode, sameNode, present, sameKey, owner, busy, freeSlot, opened, isFree, isKey, isOf, expired, gatesOf, isGate, held, free, mayOpen}
 use Rattle.reassembly.specs.Parts.{Part, Reply, kept, out, refused, fits, repeats, touches, takenIn, taken, written, full, Put, place, offer}
 use Rattle.reassembly.specs.Table.{Call, short, other, part, State, Result, chunk, splice, withSlots, untouched, slotsAt, aged, pass, land, whereKey, whereFree, offerAt, openAt, takePart, step, At, comes, next, run, opensIn, endsIn}
-use Rattle.reassembly.specs.Fresh.{seats, fresh, badList}
+use Rattle.reassembly.specs.Fresh.{seats, fresh}
 use Rattle.reassembly.specs.declared.slot.Node.{Node}
 use Rattle.reassembly.specs.declared.slot.Key.{Key}
 use Rattle.reassembly.specs.declared.slot.Slot.{Slot}

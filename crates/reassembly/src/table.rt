@@ -1,15 +1,17 @@
 // The slot table: eight slots, the last time and at most four gateways.
 ghost use mathlib.Core.Path.{_≡_};
-ghost use mathlib.Core.List.{map};
+ghost use mathlib.Core.List.{[]};
 ghost use mathlib.Core.Bool.{not, _&&_, _||_};
 ghost use Prim.Native.Nat.{_+_, _*_, _<_, _≤_};
-ghost use lib.ListN.{length};
-ghost use lib.Dec.{eqb, ltb};
-ghost use Rattle.reassembly.specs.Lists.{firstAt, those};
-ghost use Rattle.reassembly.specs.Slots.{nodeOf, sameNode, present, isFree, gatesOf, isGate, held, free, idleOthers, opening};
+ghost use lib.ListN.{length, take, replicate};
+ghost use lib.Dec.{eqb, ltb, leb};
+ghost use Rattle.octets.specs.declared.refusal.Refusal.{Refusal};
+ghost use Rattle.reassembly.specs.declared.table.Listed.{Listed};
+ghost use Rattle.reassembly.specs.Lists.{count, firstAt, those};
+ghost use Rattle.reassembly.specs.Slots.{sameNode, freeSlot, present, isFree, gatesOf, isGate, held, free, idleOthers, opening};
 ghost use Rattle.reassembly.specs.Parts.{partOf, place, offer, Ready};
 ghost use Rattle.reassembly.specs.Table.{chunk, step, partCall, Lands, Gives};
-ghost use Rattle.reassembly.specs.Fresh.{ofListed, listed, made};
+ghost use Rattle.reassembly.specs.Fresh.{seats, fresh, nodes, unfit, Begins};
 use super::part::InSlot;
 use super::part::Outcome;
 use super::part::fits;
@@ -46,6 +48,105 @@ pub enum Listed {
 pub struct Fresh {
     pub answer: Listed,
     pub table: Table,
+}
+
+impl Table {
+    // A table at its beginning, of the first `count` of these gateways.
+    pub fn new(gateways: [Address; 4], count: usize) -> Fresh
+        ensures { λ r. ⌜ Begins (r .answer) (r .table) count gateways ⌝ }
+    {
+        if 4 < count {
+            return Table::refused();
+        }
+        let seats = seat_all(gateways, count);
+        if has_unfit(seats, count) {
+            return Table::refused();
+        }
+        let table = Table::of(seats);
+        let answer = Listed::Accepted;
+        Fresh { answer, table }
+    }
+
+    fn of(seats: [Node; 4]) -> Table
+        ensures { λ r. ⌜ r ≡ record { slots = replicate 8 freeSlot; last = 0; gateways = seats } ⌝ }
+    {
+        let s = Slot::free();
+        let slots = [s; 8];
+        Table {
+            slots,
+            last: 0,
+            gateways: seats,
+        }
+    }
+
+    fn refused() -> Fresh
+        ensures { λ r. ⌜ (r .answer ≡ Listed.Refused Refusal.BadGateways) × (r .table ≡ fresh []) ⌝ }
+    {
+        let n = Node::NONE;
+        let table = Table::of([n; 4]);
+        let answer = Listed::Refused(Refusal::BadGateways);
+        Fresh { answer, table }
+    }
+}
+
+// The seats of the first `count` addresses.
+fn seat_all(gateways: [Address; 4], count: usize) -> [Node; 4]
+    requires { ⌜ count ≤ 4 ⌝ }
+    ensures { λ r. ⌜ r ≡ seats (nodes count gateways) ⌝ }
+{
+    let n = Node::NONE;
+    let mut all = [n; 4];
+    let mut i: usize = 0;
+    while i < count {
+        let a = gateways[i];
+        let g = Node::of(a);
+        all[i] = g;
+        i = i + 1;
+    }
+    all
+}
+
+// How many of the first `size` seats are g's.
+fn count_seats(seats: [Node; 4], size: usize, g: Node) -> usize
+    requires { ⌜ size ≤ 4 ⌝ }
+    ensures { λ r. ⌜ r ≡ count (sameNode g) (take size seats) ⌝ }
+{
+    let mut n: usize = 0;
+    let mut i: usize = 0;
+    while i < size {
+        let h = seats[i];
+        if g.same(h) {
+            n = n + 1;
+        }
+        i = i + 1;
+    }
+    n
+}
+
+// Whether a seat's address is absent, or stands twice among the first `size`.
+fn is_unfit(seats: [Node; 4], size: usize, g: Node) -> bool
+    requires { ⌜ size ≤ 4 ⌝ }
+    ensures { λ r. ⌜ r ≡ unfit (take size seats) g ⌝ }
+{
+    if g.is_present() {
+        return 1 < count_seats(seats, size, g);
+    }
+    true
+}
+
+fn has_unfit(seats: [Node; 4], size: usize) -> bool
+    requires { ⌜ size ≤ 4 ⌝ }
+    ensures { λ r. ⌜ r ≡ leb 1 (count (unfit (take size seats)) (take size seats)) ⌝ }
+{
+    let mut i: usize = 0;
+    while i < size {
+        let g = seats[i];
+        if is_unfit(seats, size, g) {
+            return true;
+        }
+        i = i + 1;
+    }
+    false
 }
 
 // Whether too little was lent.
