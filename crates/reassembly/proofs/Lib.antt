@@ -7,3 +7,4 @@ pub mod Memory
 pub mod Runs
 pub mod Answers
 pub mod Fresh
+pub mod Promises

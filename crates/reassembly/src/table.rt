@@ -200,15 +200,15 @@ fn lowest_free(t: Table) -> usize
 fn count_free(t: Table) -> usize
     ensures { λ r. ⌜ r ≡ free (t .slots) ⌝ }
 {
-    let mut n: usize = 0;
+    let mut found: usize = 0;
     let mut i: usize = 0;
     while i < 8 {
         if t.slots[i].live != 1 {
-            n = n + 1;
+            found = found + 1;
         }
         i = i + 1;
     }
-    n
+    found
 }
 
 fn count_held(t: Table, g: Node) -> usize
@@ -303,9 +303,9 @@ fn place_at(
     requires { ⌜ Ready (s .key .size) (offset .0) (now part) (chunk i (now mem)) (now out) ⌝ }
     ensures { λ r. ⌜ Lands r i (now (mem .entry)) (now (mem .exit)) (now (out .entry)) (now (out .exit)) (place s (chunk i (now (mem .entry))) (partOf (s .key) (offset .0) elided (now (part .entry)))) ⌝ }
 {
-    let from = i * 2048;
-    let to = from + 2048;
-    place_part(s, &mut mem[from..to], offset, elided, part, out)
+    let start = i * 2048;
+    let end = start + 2048;
+    place_part(s, &mut mem[start..end], offset, elided, part, out)
 }
 
 // A part that comes at a time: the checks of the scope document in its order, then the slot of its key, or one that is

@@ -13,10 +13,10 @@ use Rattle.reassembly.proofs.table.count_free.Statement.{statement}
 use Rattle.reassembly.proofs.table.count_free.Tie as tie
 
 abbrev Inv-loop : tie.InvT-loop
-Inv-loop t n₀ i₀ n i = (i ≤ 8) × (n ≤ i) × (count isFree (t .slots) ≡ n + count isFree (drop i (t .slots)))
+Inv-loop t found₀ i₀ found i = (i ≤ 8) × (found ≤ i) × (count isFree (t .slots) ≡ found + count isFree (drop i (t .slots)))
 
 abbrev μ-loop : tie.MeasureT-loop
-μ-loop t n₀ i₀ n i = 8 - i
+μ-loop t found₀ i₀ found i = 8 - i
 
 loop-holds : tie.Need-loop-holds Inv-loop μ-loop
 loop-holds c = (search needs, search needs, omega arith)
@@ -27,8 +27,8 @@ mul-if1 c = search needs
 element-copy-out-if1 : tie.Need-element-copy-out-if1 Inv-loop μ-loop
 element-copy-out-if1 c = search needs
 
-add-n : tie.Need-add-n Inv-loop μ-loop
-add-n c = search needs
+add-found : tie.Need-add-found Inv-loop μ-loop
+add-found c = search needs
 
 add-i : tie.Need-add-i Inv-loop μ-loop
 add-i c = search needs
@@ -64,7 +64,7 @@ count-free-spec =
     loop-holds
     mul-if1
     element-copy-out-if1
-    add-n
+    add-found
     add-i
     loop-less
     loop-again

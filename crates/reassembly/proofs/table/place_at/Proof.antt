@@ -9,11 +9,11 @@ use borrow.Author.Needs.{needs}
 use Rattle.reassembly.proofs.table.place_at.Statement.{statement}
 use Rattle.reassembly.proofs.table.place_at.Tie as tie
 
-mul-from : tie.Need-mul-from
-mul-from c = search needs
+mul-start : tie.Need-mul-start
+mul-start c = search needs
 
-add-to : tie.Need-add-to
-add-to c = search needs
+add-end : tie.Need-add-end
+add-end c = search needs
 
 sub-place-part : tie.Need-sub-place-part
 sub-place-part c = search needs
@@ -44,8 +44,8 @@ pub place-at-spec : {M : Type 1} → statement M
 place-at-spec =
     tie.close
     (tie.spec
-    mul-from
-    add-to
+    mul-start
+    add-end
     sub-place-part
     part-place-part-start
     part-place-part-end
