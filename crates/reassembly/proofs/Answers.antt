@@ -1,0 +1,211 @@
+-- What a part that comes is answered, answer by answer: over any table whose slots are the aged ones.
+use Prim.Native.Nat.{ℕ, zero, suc, _+_, _*_, _≤_, _<_}
+use native.Mathlib.Nat.{not-suc-le-zero, le-of-suc-le-suc}
+use native.Mathlib.Numerals.{add-one}
+use native.Mathlib.Omega.{arith}
+use mathlib.Core.Path.{_≡_, refl, sym, ap, _∙_}
+use mathlib.Core.Bool.{Bool, true, false, _||_, true≢false}
+use mathlib.Core.List.{List, [], _∷_}
+use lib.ListN.{length, getD, set, drop}
+use lib.Seq.{set-getD}
+use lib.Dec.{ltb, leb, eqb}
+use borrow.Author.Tests.{ltb-true, ltb-false, lt-ltb, le-ltb, leb-true}
+use Rattle.octets.specs.Read.{choose}
+use Rattle.octets.specs.Refusal.{numberOf}
+use Rattle.octets.specs.declared.refusal.Refusal.{Refusal}
+use Rattle.reassembly.specs.Lists.{count, firstAt, those}
+use Rattle.reassembly.specs.Slots.{present, owner, freeSlot, opened, isFree, isKey, expired, expire1, expire, gatesOf, isGate, free, mayOpen, opening}
+use Rattle.reassembly.specs.Parts.{Part, partOf, Reply, refused, fitsIn, fits, Put, place, offer, Ready}
+use Rattle.reassembly.specs.Table.{State, Result, part, short, chunk, withSlots, untouched, slotsAt, pass, land, whereKey, whereFree, offerAt, openAt, takePart, step, partCall, Lands, Gives}
+use Rattle.reassembly.specs.declared.slot.Key.{Key}
+use Rattle.reassembly.specs.declared.slot.Slot.{Slot}
+use Rattle.reassembly.specs.declared.part.Outcome.{Outcome}
+use Rattle.reassembly.specs.declared.part.InSlot.{InSlot}
+use Rattle.reassembly.specs.declared.table.Table.{Table}
+use Rattle.reassembly.specs.declared.table.Received.{Received}
+use Rattle.reassembly.proofs.Tests.{by-test, and-left, and-right}
+use Rattle.reassembly.proofs.Lists.{getD-any, firstAt-holds, firstAt-found}
+use Rattle.reassembly.proofs.Gateways.{isKey-key, mayOpen-rule}
+use Rattle.reassembly.proofs.Memory.{length-chunk}
+
+-- ---- the loop that frees in place
+
+-- the first i slots aged, the others as they are
+unfoldable pub agedTo : ℕ → ℕ → List Slot → List Slot
+agedTo t zero l = l
+agedTo t (suc i) [] = []
+agedTo t (suc i) (s ∷ l) = expire1 t s ∷ agedTo t i l
+
+pub aged-none : (t : ℕ) (l : List Slot) → l ≡ agedTo t 0 l
+unfolding agedTo
+aged-none t l = refl
+
+pub length-aged : (t i : ℕ) (l : List Slot) → length (agedTo t i l) ≡ length l
+unfolding agedTo
+length-aged t zero l = refl
+length-aged t (suc i) [] = refl
+length-aged t (suc i) (s ∷ l) = ap suc (length-aged t i l)
+
+aged-all : (t n : ℕ) (l : List Slot) → length l ≤ n → agedTo t n l ≡ expire t l
+unfolding agedTo expire
+aged-all t zero [] h = refl
+aged-all t zero (s ∷ l) h = absurd (not-suc-le-zero h)
+aged-all t (suc n) [] h = refl
+aged-all t (suc n) (s ∷ l) h = ap (λ z. expire1 t s ∷ z) (aged-all t n l (le-of-suc-le-suc h))
+
+aged-more : (t i : ℕ) (l : List Slot) (d : Slot) → i < length l → set (agedTo t i l) i (expire1 t (getD (agedTo t i l) i d)) ≡ agedTo t (suc i) l
+unfolding agedTo
+aged-more t zero [] d h = absurd (not-suc-le-zero h)
+aged-more t zero (s ∷ l) d h = refl
+aged-more t (suc i) [] d h = refl
+aged-more t (suc i) (s ∷ l) d h = ap (λ z. expire1 t s ∷ z) (aged-more t i l d (le-of-suc-le-suc h))
+
+-- a turn of the loop: the slot is freed, or stays
+module _ (t : ℕ) (l l′ : List Slot) (i : ℕ) (d : Slot) (e : l′ ≡ agedTo t i l) (h : i < length l) where
+  pub aged-turn : (f : Slot) → f ≡ freeSlot → expired t (getD l′ i d) ≡ true → set l′ i f ≡ agedTo t (i + 1) l
+  unfolding expire1
+  aged-turn f q p =
+      let z : expire1 t (getD l′ i d) ≡ f = rw (p, q) in
+      rw (add-one, ← aged-more t i l d h, ← e, z)
+
+  pub aged-stay : expired t (getD l′ i d) ≡ false → l′ ≡ agedTo t (i + 1) l
+  unfolding expire1
+  aged-stay p =
+      let z : expire1 t (getD l′ i d) ≡ getD l′ i d = rw p in
+      rw (add-one, ← aged-more t i l d h, ← e, z) (sym (set-getD l′ i d))
+
+-- x has the slots of tb as a call at t finds them
+pub record Aged (tb x : Table) (t : ℕ) : Type 0 where
+  pub slots : x .slots ≡ expire t (tb .slots)
+  pub gates : x .gateways ≡ tb .gateways
+  pub eight : length (x .slots) ≡ 8
+
+pub aged-of : (tb x : Table) (t i : ℕ) → length (tb .slots) ≡ 8 → 8 ≤ i → x .slots ≡ agedTo t i (tb .slots) → x .gateways ≡ tb .gateways → Aged tb x t
+aged-of tb x t i n h e g = record {
+  slots = e ∙ aged-all t i (tb .slots) (omega arith);
+  gates = g;
+  eight = ap length e ∙ length-aged t i (tb .slots) ∙ n;
+}
+
+-- ---- what refusal 10 rules out
+
+or-no : (a b : Bool) → (a || b) ≡ false → (a ≡ false) × (b ≡ false)
+or-no true b e = absurd (true≢false e)
+or-no false b e = (refl, e)
+
+pub ready : (k : Key) (u : ℕ) (bs m o : List ℕ) (i : ℕ) → fitsIn (k .size) u (length bs) ≡ true → (ltb (length m) 16384 || ltb (length o) 2047) ≡ false → i < 8
+    → Ready (k .size) u bs (chunk i m) o
+unfolding fitsIn
+ready k u bs m o i f s h =
+    let e1 = and-right (leb 40 (k .size)) _ f in
+    let e2 = and-right (leb (k .size) 2047) _ e1 in
+    let e3 = and-right (leb 1 (length bs)) _ e2 in
+    let w = or-no (ltb (length m) 16384) (ltb (length o) 2047) s in
+    let a = ltb-false (length m) 16384 (w .0) in
+    record {
+      some = leb-true 1 (length bs) (and-left (leb 1 (length bs)) _ e2);
+      ends = leb-true (u * 8 + length bs) (k .size) (and-left (leb (u * 8 + length bs) (k .size)) _ e3);
+      small = leb-true (k .size) 2047 (and-left (leb (k .size) 2047) _ e1);
+      room = length-chunk i m (omega arith);
+      output = ltb-false (length o) 2047 (w .1);
+    }
+
+pub enough-memory : (m o : List ℕ) → (ltb (length m) 16384 || ltb (length o) 2047) ≡ false → 16384 ≤ length m
+enough-memory m o s = ltb-false (length m) 16384 (or-no (ltb (length m) 16384) (ltb (length o) 2047) s .0)
+
+-- the slot that a key is found in is open under that key
+pub found : (l : List Slot) (k : Key) (f : ℕ) (d : Slot) → length l ≡ 8 → firstAt (isKey k) l ≡ f → f < 8 → getD l f d .key ≡ k
+found l k f d n e h = isKey-key k (getD l f d) (rw e at (firstAt-holds (isKey k) l d (omega arith)))
+
+-- ---- the answers
+
+abbrev state : Table → List ℕ → State
+state tb m = record { table = tb; mem = m }
+
+module _ (tb : Table) (m o : List ℕ) (t : ℕ) (p : Part) where
+  pub gives-7 : (ltb (length m) 16384 || ltb (length o) 2047) ≡ true
+      → Gives (record { answer = Outcome.Refused Refusal.NoRoom; table = tb }) m o o (step (state tb m) (partCall m o t p))
+  unfolding step partCall untouched
+  gives-7 e = rw e record { answer = refl; table = refl; memory = refl; output = refl }
+
+  module _ (enough : (ltb (length m) 16384 || ltb (length o) 2047) ≡ false) where
+    pub gives-8 : t < tb .last → Gives (record { answer = Outcome.Refused Refusal.EarlierTime; table = tb }) m o o (step (state tb m) (partCall m o t p))
+    unfolding step partCall untouched
+    gives-8 h = rw (enough, lt-ltb t (tb .last) h) record { answer = refl; table = refl; memory = refl; output = refl }
+
+    module _ (late : tb .last ≤ t) (x : Table) (G : Aged tb x t) where
+      timed : step (state tb m) (partCall m o t p) ≡ takePart (state tb m) t p
+      unfolding step partCall
+      timed = rw (enough, le-ltb t (tb .last) late)
+
+      slots-are : slotsAt t (state tb m) ≡ x .slots
+      unfolding slotsAt
+      slots-are = sym (G .slots)
+
+      table-is : record { slots = x .slots; last = t; gateways = x .gateways } ≡ withSlots tb t (slotsAt t (state tb m))
+      unfolding withSlots
+      table-is = rw (slots-are, G .gates)
+
+      gates-are : isGate (owner (p .key)) (those present (x .gateways)) ≡ isGate (owner (p .key)) (gatesOf tb)
+      unfolding gatesOf
+      gates-are = rw (G .gates)
+
+      passes : (r : Refusal) → takePart (state tb m) t p ≡ pass (state tb m) t (refused (numberOf r))
+          → Gives (record { answer = Outcome.Refused r; table = record { slots = x .slots; last = t; gateways = x .gateways } }) m o o (step (state tb m) (partCall m o t p))
+      unfolding pass
+      passes r e = rw (timed, e) record { answer = refl; table = table-is; memory = refl; output = refl }
+
+      landed : (i n : ℕ) (q : Put) (d : InSlot) (m′ o′ : List ℕ) → takePart (state tb m) t p ≡ land (state tb m) t i n q → Lands d i m m′ o o′ q
+          → Gives (record { answer = d .outcome; table = record { slots = set (x .slots) i (d .slot); last = t; gateways = x .gateways } }) m′ o o′ (step (state tb m) (partCall m o t p))
+      unfolding land withSlots
+      landed i n q d m′ o′ e D = rw (timed, e) record {
+        answer = D .answer;
+        table = rw (slots-are, D .slot, G .gates);
+        memory = D .memory;
+        output = D .output;
+      }
+
+      pub gives-9 : isGate (owner (p .key)) (those present (x .gateways)) ≡ false
+          → Gives (record { answer = Outcome.Refused Refusal.NotGateway; table = record { slots = x .slots; last = t; gateways = x .gateways } }) m o o (step (state tb m) (partCall m o t p))
+      unfolding takePart
+      gives-9 h = passes Refusal.NotGateway (rw (sym gates-are ∙ h))
+
+      module _ (known : isGate (owner (p .key)) (those present (x .gateways)) ≡ true) where
+        pub gives-10 : fits p ≡ false
+            → Gives (record { answer = Outcome.Refused Refusal.BadPart; table = record { slots = x .slots; last = t; gateways = x .gateways } }) m o o (step (state tb m) (partCall m o t p))
+        unfolding takePart
+        gives-10 h = passes Refusal.BadPart (rw (sym gates-are ∙ known, h))
+
+        module _ (good : fits p ≡ true) (f : ℕ) (at : firstAt (isKey (p .key)) (x .slots) ≡ f) where
+          where-is : whereKey (p .key) t (state tb m) ≡ f
+          unfolding whereKey
+          where-is = rw slots-are at
+
+          pub gives-offer : f < 8 → (d : Slot) (r : InSlot) (m′ o′ : List ℕ) → Lands r f m m′ o o′ (offer (getD (x .slots) f d) (chunk f m) p)
+              → Gives (record { answer = r .outcome; table = record { slots = set (x .slots) f (r .slot); last = t; gateways = x .gateways } }) m′ o o′ (step (state tb m) (partCall m o t p))
+          unfolding takePart offerAt
+          gives-offer h d r m′ o′ D =
+              let s : getD (slotsAt t (state tb m)) f freeSlot ≡ getD (x .slots) f d = rw slots-are (getD-any (x .slots) f freeSlot d (omega (arith, G .eight))) in
+              landed f 0 (offer (getD (x .slots) f d) (chunk f m) p) r m′ o′ (rw (sym gates-are ∙ known, good, where-is, lt-ltb f 8 h, s)) D
+
+          module _ (none : 8 ≤ f) (low : ℕ) (opens : opening (owner (p .key)) (those present (x .gateways)) (x .slots) ≡ low) where
+            pub gives-open : low < 8 → (r : InSlot) (m′ o′ : List ℕ) → Lands r low m m′ o o′ (place (opened (p .key) t) (chunk low m) p)
+                → Gives (record { answer = r .outcome; table = record { slots = set (x .slots) low (r .slot); last = t; gateways = x .gateways } }) m′ o o′ (step (state tb m) (partCall m o t p))
+            unfolding takePart openAt whereFree opening gatesOf
+            gives-open h r m′ o′ D = by-test (mayOpen (owner (p .key)) (those present (x .gateways)) (x .slots))
+                (λ e.
+                let w : firstAt isFree (x .slots) ≡ low = rw e at opens in
+                landed low 1 (place (opened (p .key) t) (chunk low m) p) r m′ o′ (rw (sym gates-are ∙ known, good, where-is, le-ltb f 8 none, slots-are, ← G .gates, e, w)) D)
+                (λ e.
+                let w : 8 ≡ low = rw e at opens in
+                absurd (omega arith))
+
+            pub gives-12 : 8 ≤ low
+                → Gives (record { answer = Outcome.Refused Refusal.NoSlot; table = record { slots = x .slots; last = t; gateways = x .gateways } }) m o o (step (state tb m) (partCall m o t p))
+            unfolding takePart opening gatesOf free
+            gives-12 h = by-test (mayOpen (owner (p .key)) (those present (x .gateways)) (x .slots))
+                (λ e.
+                let w : firstAt isFree (x .slots) ≡ low = rw e at opens in
+                let r : 1 ≤ count isFree (x .slots) = mayOpen-rule (owner (p .key)) (those present (x .gateways)) (x .slots) e .room in
+                absurd (omega (arith, G .eight, firstAt-found isFree (x .slots) r)))
+                (λ e. passes Refusal.NoSlot (rw (sym gates-are ∙ known, good, where-is, le-ltb f 8 none, slots-are, ← G .gates, e)))

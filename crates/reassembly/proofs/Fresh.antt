@@ -1,0 +1,117 @@
+-- The gateway list: seats filled one after the other, and what 14 lets pass.
+use Prim.Native.Nat.{ℕ, zero, suc, _+_, _-_, _≤_, _<_}
+use native.Mathlib.Nat.{not-suc-le-zero, le-of-suc-le-suc}
+use native.Mathlib.Numerals.{add-one}
+use native.Mathlib.Omega.{arith}
+use mathlib.Core.Path.{_≡_, refl, sym, ap, _∙_}
+use mathlib.Core.Bool.{Bool, true, false, not, _||_}
+use mathlib.Core.List.{List, [], _∷_, _++_, map}
+use lib.ListN.{length, getD, set, take, replicate, length-map}
+use lib.Seq.{take-at, length-take-le}
+use lib.Dec.{ltb, leb}
+use borrow.Author.Tests.{lt-ltb, le-ltb, lt-leb, ltb-false, leb-false}
+use Rattle.octets.specs.declared.refusal.Refusal.{Refusal}
+use Rattle.ieee802154.specs.declared.addr.Address.{Address}
+use Rattle.reassembly.specs.Lists.{bit, count, firstAt, those}
+use Rattle.reassembly.specs.Slots.{nodeOf, noNode, sameNode, present, freeSlot}
+use Rattle.reassembly.specs.Fresh.{ofListed, seats, fresh, nodes, unfit, refusedList, listed, made, Begins}
+use Rattle.reassembly.specs.declared.slot.Node.{Node}
+use Rattle.reassembly.specs.declared.table.Table.{Table}
+use Rattle.reassembly.specs.declared.table.Listed.{Listed}
+use Rattle.reassembly.proofs.Tests.{by-test, by-order, not-true-false, no-both, or-cases}
+use Rattle.reassembly.proofs.Lists.{count-at, firstAt-found, firstAt-holds}
+use Rattle.reassembly.proofs.Slots.{sameNode-eq}
+use Rattle.reassembly.proofs.Runs.{Gateways}
+
+-- ---- seats
+
+seat-set : (l : List Address) (i k : ℕ) (d : Address) → i < length l
+    → set (map nodeOf (take i l) ++ replicate (suc k) noNode) i (nodeOf (getD l i d)) ≡ map nodeOf (take (suc i) l) ++ replicate k noNode
+seat-set [] i k d h = absurd (not-suc-le-zero h)
+seat-set (a ∷ l) zero k d h = refl
+seat-set (a ∷ l) (suc i) k d h = ap (λ z. nodeOf a ∷ z) (seat-set l i k d (le-of-suc-le-suc h))
+
+pub length-nodes : (n : ℕ) (l : List Address) → n ≤ length l → length (nodes n l) ≡ n
+unfolding nodes
+length-nodes n l h = length-map (take n l) nodeOf ∙ length-take-le n l h
+
+pub seat-none : (l : List Address) → replicate 4 noNode ≡ seats (nodes 0 l)
+unfolding seats nodes
+seat-none l = refl
+
+pub seat-more : (l : List Address) (i : ℕ) (d : Address) → length l ≡ 4 → i < 4 → set (seats (nodes i l)) i (nodeOf (getD l i d)) ≡ seats (nodes (i + 1) l)
+unfolding seats nodes
+seat-more l i d n h =
+    let a : length (map nodeOf (take i l)) ≡ i = length-map (take i l) nodeOf ∙ length-take-le i l (omega arith) in
+    let b : length (map nodeOf (take (suc i) l)) ≡ suc i = length-map (take (suc i) l) nodeOf ∙ length-take-le (suc i) l (omega arith) in
+    let k : 4 - i ≡ suc (4 - suc i) = omega arith in
+    rw (add-one, a, b, k) (seat-set l i (4 - suc i) d (omega arith))
+
+pub take-seats : (n : ℕ) (l : List Address) → n ≤ length l → take n (seats (nodes n l)) ≡ nodes n l
+unfolding seats
+take-seats n l h = take-at (nodes n l) (replicate (4 - length (nodes n l)) noNode) n (length-nodes n l h)
+
+-- ---- what `Table::new` answers
+
+module _ (n : ℕ) (l : List Address) where
+  begins-refused : refusedList n (nodes n l) ≡ true → (y : Listed) (x : Table) → y ≡ Listed.Refused Refusal.BadGateways → x ≡ fresh [] → Begins y x n l
+  unfolding listed made
+  begins-refused h y x e f = record { answer = ap ofListed e ∙ rw h; table = f ∙ rw h }
+
+  pub begins-long : 4 < n → (y : Listed) (x : Table) → y ≡ Listed.Refused Refusal.BadGateways → x ≡ fresh [] → Begins y x n l
+  unfolding refusedList
+  begins-long h = begins-refused (rw (lt-ltb 4 n h))
+
+  module _ (short : n ≤ 4) where
+    pub begins-unfit : leb 1 (count (unfit (nodes n l)) (nodes n l)) ≡ true → (y : Listed) (x : Table) → y ≡ Listed.Refused Refusal.BadGateways → x ≡ fresh [] → Begins y x n l
+    unfolding refusedList
+    begins-unfit h = begins-refused (rw (le-ltb 4 n short, h))
+
+    pub begins : leb 1 (count (unfit (nodes n l)) (nodes n l)) ≡ false → (x : Table) → x ≡ record { slots = replicate 8 freeSlot; last = 0; gateways = seats (nodes n l) } → Begins Listed.Accepted x n l
+    unfolding refusedList listed made fresh
+    begins h x e = record { answer = rw (le-ltb 4 n short, h); table = e ∙ rw (le-ltb 4 n short, h) }
+
+-- ---- a list that is not refused
+
+fit-present : (gs : List Node) (g : Node) → unfit gs g ≡ false → present g ≡ true
+unfolding unfit
+fit-present gs g e = by-test (present g) (λ h. h) (λ h. no-both true refl (rw h at e))
+
+all-fit : (gs l : List Node) → count (unfit gs) l ≡ 0 → those present l ≡ l
+unfolding count those
+all-fit gs [] z = refl
+all-fit gs (g ∷ l) z = by-test (unfit gs g)
+    (λ e. let b : bit (unfit gs g) ≡ 1 = rw e in absurd (omega arith))
+    (λ e. rw (fit-present gs g e) (ap (λ r. g ∷ r) (all-fit gs l (omega arith))))
+
+fit-once : (gs : List Node) (g : Node) → unfit gs g ≡ false → count (sameNode g) gs ≤ 1
+unfolding unfit
+fit-once gs g e = by-order (count (sameNode g) gs) 1 (λ h. h) (λ h. no-both true refl (rw (lt-ltb 1 (count (sameNode g) gs) h, or-true (not (present g))) at e))
+  where
+    or-true : (b : Bool) → (b || true) ≡ true
+    or-true true = refl
+    or-true false = refl
+
+pub accepted : (n : ℕ) (l : List Address) → n ≤ length l → refusedList n (nodes n l) ≡ false → Gateways (nodes n l)
+unfolding refusedList
+accepted n l h e =
+    let gs = nodes n l in
+    let w = or-no (ltb 4 n) (leb 1 (count (unfit gs) gs)) e in
+    let z : count (unfit gs) gs ≡ 0 = omega (arith, leb-false 1 (count (unfit gs) gs) (w .1)) in
+    let short = ltb-false 4 n (w .0) in
+    record {
+      four = omega (arith, length-nodes n l h);
+      seated = all-fit gs gs z;
+      distinct = λ g. by-order 1 (count (sameNode g) gs)
+          (λ c.
+          let i = firstAt (sameNode g) gs in
+          let low = firstAt-found (sameNode g) gs c in
+          let same : g ≡ getD gs i noNode = sameNode-eq g (getD gs i noNode) (firstAt-holds (sameNode g) gs noNode low) in
+          let fit : unfit gs (getD gs i noNode) ≡ false = not-true-false (unfit gs (getD gs i noNode)) (λ u. omega (arith, count-at (unfit gs) gs i noNode low u)) in
+          rw same (fit-once gs (getD gs i noNode) fit))
+          (λ c. omega arith);
+    }
+  where
+    or-no : (a b : Bool) → (a || b) ≡ false → (a ≡ false) × (b ≡ false)
+    or-no true b q = (cc, cc)
+    or-no false b q = (refl, q)

@@ -1,0 +1,90 @@
+-- What the slot table promises of every run of calls, from a fresh table with a gateway list that 14 lets pass; and that the contracts
+-- leave no second answer.
+use Prim.Native.Nat.{ℕ, _+_, _≤_, _<_}
+use native.Mathlib.Omega.{arith}
+use mathlib.Core.Path.{_≡_, refl, sym, ap, ap₂, _∙_}
+use mathlib.Core.Bool.{Bool, true, false}
+use mathlib.Core.List.{List}
+use lib.ListN.{length}
+use Rattle.octets.specs.Refusal.{numberOf}
+use Rattle.octets.proofs.Unique.{number-one}
+use Rattle.ieee802154.specs.declared.addr.Address.{Address}
+use Rattle.reassembly.specs.Lists.{count, firstAt}
+use Rattle.reassembly.specs.Slots.{opened, isFree, expired, gatesOf, isGate, held, free, mayOpen, opening}
+use Rattle.reassembly.specs.Parts.{Reply, kept, out, refused, told, ofOutcome}
+use Rattle.reassembly.specs.Table.{Call, State, Result, slotsAt, run, opensIn, endsIn, Gives}
+use Rattle.reassembly.specs.Fresh.{Begins, ofListed}
+use Rattle.reassembly.specs.declared.slot.Node.{Node}
+use Rattle.reassembly.specs.declared.slot.Key.{Key}
+use Rattle.reassembly.specs.declared.part.Outcome.{Outcome}
+use Rattle.reassembly.specs.declared.table.Table.{Table}
+use Rattle.reassembly.specs.declared.table.Received.{Received}
+use Rattle.reassembly.specs.declared.table.Listed.{Listed}
+use Rattle.reassembly.proofs.Lists.{firstAt-found}
+use Rattle.reassembly.proofs.Gateways.{idle, free-for-idle, mayOpen-none, mayOpen-rule, Sound}
+use Rattle.reassembly.proofs.Runs.{Gateways, begun, Good, good-at, fresh-good, fresh-free, run-good, run-count}
+
+module _ (gs : List Node) (m : List ℕ) (W : Gateways gs) (h : 16384 ≤ length m) (cs : List Call) where
+  good : Good (run (begun gs m) cs)
+  good = run-good cs (begun gs m) (fresh-good gs m W h)
+
+  -- "No gateway ever holds over three slots."
+  pub three : (g : Node) → held g (run (begun gs m) cs .table .slots) ≤ 3
+  three g = good .sound .cap g
+
+  -- the free slots are never fewer than the gateways that hold none
+  pub reserved : idle (gatesOf (run (begun gs m) cs .table)) (run (begun gs m) cs .table .slots) ≤ free (run (begun gs m) cs .table .slots)
+  reserved = free-for-idle (gatesOf (run (begun gs m) cs .table)) (run (begun gs m) cs .table .slots) (good .sound)
+
+  -- a gateway that holds none, once a call at t has freed the old slots, can open one
+  pub can-open : (t : ℕ) (g : Node) → isGate g (gatesOf (run (begun gs m) cs .table)) ≡ true → held g (slotsAt t (run (begun gs m) cs)) ≡ 0
+      → opening g (gatesOf (run (begun gs m) cs .table)) (slotsAt t (run (begun gs m) cs)) < 8
+  unfolding opening free
+  can-open t g k z =
+      let σ = run (begun gs m) cs in
+      let S = good-at σ t good in
+      let e : mayOpen g (gatesOf (σ .table)) (slotsAt t σ) ≡ true = mayOpen-none g (gatesOf (σ .table)) (slotsAt t σ) S k z in
+      let r : 1 ≤ count isFree (slotsAt t σ) = mayOpen-rule g (gatesOf (σ .table)) (slotsAt t σ) e .room in
+      rw e (omega (arith, S .eight, firstAt-found isFree (slotsAt t σ) r))
+
+  -- "At every moment openings so far less endings so far, plus free slots, is 8."
+  pub tally : opensIn (begun gs m) cs + free (run (begun gs m) cs .table .slots) ≡ 8 + endsIn (begun gs m) cs
+  tally = omega (arith, run-count cs (begun gs m) (fresh-good gs m W h), fresh-free gs)
+
+-- K12: a slot opened at 0 is held at 59,999, gone at 60,000
+pub k12-held : (k : Key) → expired 59999 (opened k 0) ≡ false
+unfolding expired opened
+k12-held k = refl
+
+pub k12-gone : (k : Key) → expired 60000 (opened k 0) ≡ true
+unfolding expired opened
+k12-gone k = refl
+
+-- ---- any two answers are equal
+
+pub outcome-one : (y z : Outcome) → ofOutcome y ≡ ofOutcome z → y ≡ z
+outcome-one Outcome.Kept Outcome.Kept e = refl
+outcome-one Outcome.Kept (Outcome.Out n) e = cc
+outcome-one Outcome.Kept (Outcome.Refused r) e = cc
+outcome-one (Outcome.Out n) Outcome.Kept e = cc
+outcome-one (Outcome.Out n) (Outcome.Out k) e = let q : n ≡ k = cc in ap Outcome.Out q
+outcome-one (Outcome.Out n) (Outcome.Refused r) e = cc
+outcome-one (Outcome.Refused r) Outcome.Kept e = cc
+outcome-one (Outcome.Refused r) (Outcome.Out n) e = cc
+outcome-one (Outcome.Refused r) (Outcome.Refused s) e = let q : numberOf r ≡ numberOf s = cc in ap Outcome.Refused (number-one r s q)
+
+pub listed-one : (y z : Listed) → ofListed y ≡ ofListed z → y ≡ z
+listed-one Listed.Accepted Listed.Accepted e = refl
+listed-one Listed.Accepted (Listed.Refused r) e = cc
+listed-one (Listed.Refused r) Listed.Accepted e = cc
+listed-one (Listed.Refused r) (Listed.Refused s) e = let q : numberOf r ≡ numberOf s = cc in ap Listed.Refused (number-one r s q)
+
+-- two answers, memories and outputs that meet the contract of a call are one
+pub received-one : (q : Result) (o₀ : List ℕ) (y z : Received) (m m′ o o′ : List ℕ) → Gives y m o₀ o q → Gives z m′ o₀ o′ q → (y ≡ z) × (m ≡ m′) × (o ≡ o′)
+received-one q o₀ y z m m′ o o′ A B =
+    let a : y .answer ≡ z .answer = outcome-one (y .answer) (z .answer) (A .answer ∙ sym (B .answer)) in
+    let t : y .table ≡ z .table = A .table ∙ sym (B .table) in
+    (ap₂ (λ (x : Outcome) (u : Table). record { answer = x; table = u }) a t, A .memory ∙ sym (B .memory), A .output ∙ sym (B .output))
+
+pub begun-one : (n : ℕ) (l : List Address) (y z : Listed) (x u : Table) → Begins y x n l → Begins z u n l → (y ≡ z) × (x ≡ u)
+begun-one n l y z x u A B = (listed-one y z (A .answer ∙ sym (B .answer)), A .table ∙ sym (B .table))

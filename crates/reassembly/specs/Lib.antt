@@ -1,0 +1,5 @@
+pub mod Lists
+pub mod Slots
+pub mod Parts
+pub mod Table
+pub mod Fresh

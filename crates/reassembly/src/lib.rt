@@ -1,0 +1,20 @@
+// Datagrams put together from their parts: the slot table.
+//
+// - `slot`: addresses as two numbers, keys, and a slot's record. `part`: a part offered to one slot and its 2,048 bytes.
+// - `table`: eight slots, the last time and at most four gateways, by value. `Table::new` takes the gateway list, and
+//   `receive_part` a part at a time.
+//
+// The answer, the table, the lent memory and the output are, on every input, those of specs/Table.antt's `step`. proofs/
+// shows of every table that comes from calls that no gateway holds over three slots, that the free slots suffice for the
+// gateways that hold none, that such a gateway can always open one, and that openings less endings, plus free slots, is 8.
+pub mod part;
+pub mod slot;
+pub mod table;
+
+pub use part::Outcome;
+pub use slot::Key;
+pub use slot::Node;
+pub use table::Fresh;
+pub use table::Listed;
+pub use table::Received;
+pub use table::Table;

@@ -1,0 +1,151 @@
+// Addresses, keys and slots as the table holds them: numbers of 8 bytes, so that a table by value is quick to copy.
+ghost use mathlib.Core.Path.{_≡_};
+ghost use mathlib.Core.Bool.{_&&_};
+ghost use Prim.Native.Nat.{_-_};
+ghost use lib.Dec.{eqb, leb};
+ghost use Rattle.reassembly.specs.Slots.{nodeOf, sameNode, present, sameKey, freeSlot, opened, isKey, isOf};
+use ieee802154::Address;
+
+// An address as two numbers: its kind (0 absent, 1 short, 2 extended) and its value, 0 where it is absent.
+pub struct Node {
+    pub kind: u64,
+    pub number: u64,
+}
+
+// What tells one datagram's parts from another's.
+pub struct Key {
+    pub src: Node,
+    pub dst: Node,
+    pub size: u16,
+    pub tag: u16,
+}
+
+// A slot's record: open (live is 1) under a key since a time, a mark of coverage and of a part's start for each of its 256
+// units of 8 bytes, and whether the checksum was elided.
+pub struct Slot {
+    pub key: Key,
+    pub since: u64,
+    pub covered: [u64; 4],
+    pub starts: [u64; 4],
+    pub live: u64,
+    pub elided: bool,
+}
+
+impl Node {
+    pub const NONE: Node = Node { kind: 0, number: 0 };
+
+    pub fn of(a: Address) -> Node
+        ensures { λ r. ⌜ r ≡ nodeOf a ⌝ }
+    {
+        match a {
+            Address::Absent => Node { kind: 0, number: 0 },
+            Address::Short(x) => Node {
+                kind: 1,
+                number: x as u64,
+            },
+            Address::Extended(x) => Node { kind: 2, number: x },
+        }
+    }
+
+    pub fn same(self, b: Node) -> bool
+        ensures { λ r. ⌜ r ≡ sameNode self b ⌝ }
+    {
+        if self.kind == b.kind {
+            return self.number == b.number;
+        }
+        false
+    }
+
+    pub fn is_present(self) -> bool
+        ensures { λ r. ⌜ r ≡ present self ⌝ }
+    {
+        self.kind != 0
+    }
+}
+
+impl Key {
+    pub fn same(self, b: Key) -> bool
+        ensures { λ r. ⌜ r ≡ sameKey self b ⌝ }
+    {
+        let src = self.src;
+        let dst = self.dst;
+        let other_src = b.src;
+        let other_dst = b.dst;
+        if src.same(other_src) {
+            if dst.same(other_dst) {
+                if self.size == b.size {
+                    return self.tag == b.tag;
+                }
+            }
+        }
+        false
+    }
+}
+
+impl Slot {
+    // Every free slot is this one.
+    pub fn free() -> Slot
+        ensures { λ r. ⌜ r ≡ freeSlot ⌝ }
+    {
+        Slot {
+            key: Key {
+                src: Node { kind: 0, number: 0 },
+                dst: Node { kind: 0, number: 0 },
+                size: 0,
+                tag: 0,
+            },
+            since: 0,
+            covered: [0u64; 4],
+            starts: [0u64; 4],
+            live: 0,
+            elided: false,
+        }
+    }
+
+    // A slot as it is opened under a key.
+    pub fn opened(key: Key, time: u64) -> Slot
+        ensures { λ r. ⌜ r ≡ opened key time ⌝ }
+    {
+        Slot {
+            key,
+            since: time,
+            covered: [0u64; 4],
+            starts: [0u64; 4],
+            live: 1,
+            elided: false,
+        }
+    }
+
+    pub fn has_key(self, k: Key) -> bool
+        ensures { λ r. ⌜ r ≡ isKey k self ⌝ }
+    {
+        if self.live == 1 {
+            let own = self.key;
+            return own.same(k);
+        }
+        false
+    }
+
+    pub fn is_of(self, g: Node) -> bool
+        ensures { λ r. ⌜ r ≡ isOf g self ⌝ }
+    {
+        if self.live == 1 {
+            let own = self.key;
+            let src = own.src;
+            return src.same(g);
+        }
+        false
+    }
+}
+
+// Whether a slot is 60,000 ms or more past its opening.
+pub fn is_expired(live: u64, since: u64, time: u64) -> bool
+    ensures { λ r. ⌜ r ≡ (eqb live 1 && leb 60000 (time - since)) ⌝ }
+{
+    if live == 1 {
+        if since <= time {
+            return 60000 <= time - since;
+        }
+    }
+    false
+}

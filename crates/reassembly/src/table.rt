@@ -1,0 +1,382 @@
+// The slot table: eight slots, the last time and at most four gateways.
+ghost use mathlib.Core.Path.{_≡_};
+ghost use mathlib.Core.List.{[]};
+ghost use mathlib.Core.Bool.{not, _&&_, _||_};
+ghost use Prim.Native.Nat.{_+_, _*_, _<_, _≤_};
+ghost use lib.ListN.{length, take, replicate};
+ghost use lib.Dec.{eqb, ltb, leb};
+ghost use Rattle.octets.specs.declared.refusal.Refusal.{Refusal};
+ghost use Rattle.reassembly.specs.declared.table.Listed.{Listed};
+ghost use Rattle.reassembly.specs.Lists.{count, firstAt, those};
+ghost use Rattle.reassembly.specs.Slots.{sameNode, freeSlot, present, isFree, gatesOf, isGate, held, free, idleOthers, opening};
+ghost use Rattle.reassembly.specs.Parts.{partOf, place, offer, Ready};
+ghost use Rattle.reassembly.specs.Table.{chunk, step, partCall, Lands, Gives};
+ghost use Rattle.reassembly.specs.Fresh.{seats, fresh, nodes, unfit, Begins};
+use super::part::InSlot;
+use super::part::Outcome;
+use super::part::fits;
+use super::part::offer_part;
+use super::part::place_part;
+use super::slot::Key;
+use super::slot::Node;
+use super::slot::Slot;
+use super::slot::is_expired;
+use ieee802154::Address;
+use octets::refusal::Refusal;
+use sixlowpan::frag::Units;
+
+// The slots, the last time taken, and the gateways: a seat without one holds an absent address.
+pub struct Table {
+    pub slots: [Slot; 8],
+    pub last: u64,
+    pub gateways: [Node; 4],
+}
+
+// The answer of a call, and the table after it.
+pub struct Received {
+    pub answer: Outcome,
+    pub table: Table,
+}
+
+// Whether a gateway list was taken.
+pub enum Listed {
+    Accepted,
+    Refused(Refusal),
+}
+
+// A new table; one without gateways where the list was refused.
+pub struct Fresh {
+    pub answer: Listed,
+    pub table: Table,
+}
+
+impl Table {
+    // A table at its beginning, of the first `count` of these gateways.
+    pub fn new(gateways: [Address; 4], count: usize) -> Fresh
+        ensures { λ r. ⌜ Begins (r .answer) (r .table) count gateways ⌝ }
+    {
+        if 4 < count {
+            return Table::refused();
+        }
+        let seats = seat_all(gateways, count);
+        if has_unfit(seats, count) {
+            return Table::refused();
+        }
+        let table = Table::of(seats);
+        let answer = Listed::Accepted;
+        Fresh { answer, table }
+    }
+
+    fn of(seats: [Node; 4]) -> Table
+        ensures { λ r. ⌜ r ≡ record { slots = replicate 8 freeSlot; last = 0; gateways = seats } ⌝ }
+    {
+        let s = Slot::free();
+        let slots = [s; 8];
+        Table {
+            slots,
+            last: 0,
+            gateways: seats,
+        }
+    }
+
+    fn refused() -> Fresh
+        ensures { λ r. ⌜ (r .answer ≡ Listed.Refused Refusal.BadGateways) × (r .table ≡ fresh []) ⌝ }
+    {
+        let n = Node::NONE;
+        let table = Table::of([n; 4]);
+        let answer = Listed::Refused(Refusal::BadGateways);
+        Fresh { answer, table }
+    }
+}
+
+// The seats of the first `count` addresses.
+fn seat_all(gateways: [Address; 4], count: usize) -> [Node; 4]
+    requires { ⌜ count ≤ 4 ⌝ }
+    ensures { λ r. ⌜ r ≡ seats (nodes count gateways) ⌝ }
+{
+    let n = Node::NONE;
+    let mut all = [n; 4];
+    let mut i: usize = 0;
+    while i < count {
+        let a = gateways[i];
+        let g = Node::of(a);
+        all[i] = g;
+        i = i + 1;
+    }
+    all
+}
+
+// How many of the first `size` seats are g's.
+fn count_seats(seats: [Node; 4], size: usize, g: Node) -> usize
+    requires { ⌜ size ≤ 4 ⌝ }
+    ensures { λ r. ⌜ r ≡ count (sameNode g) (take size seats) ⌝ }
+{
+    let mut n: usize = 0;
+    let mut i: usize = 0;
+    while i < size {
+        let h = seats[i];
+        if g.same(h) {
+            n = n + 1;
+        }
+        i = i + 1;
+    }
+    n
+}
+
+// Whether a seat's address is absent, or stands twice among the first `size`.
+fn is_unfit(seats: [Node; 4], size: usize, g: Node) -> bool
+    requires { ⌜ size ≤ 4 ⌝ }
+    ensures { λ r. ⌜ r ≡ unfit (take size seats) g ⌝ }
+{
+    if g.is_present() {
+        return 1 < count_seats(seats, size, g);
+    }
+    true
+}
+
+fn has_unfit(seats: [Node; 4], size: usize) -> bool
+    requires { ⌜ size ≤ 4 ⌝ }
+    ensures { λ r. ⌜ r ≡ leb 1 (count (unfit (take size seats)) (take size seats)) ⌝ }
+{
+    let mut i: usize = 0;
+    while i < size {
+        let g = seats[i];
+        if is_unfit(seats, size, g) {
+            return true;
+        }
+        i = i + 1;
+    }
+    false
+}
+
+// Whether too little was lent.
+fn is_short(mem: usize, out: usize) -> bool
+    ensures { λ r. ⌜ r ≡ (ltb mem 16384 || ltb out 2047) ⌝ }
+{
+    if mem < 16384 {
+        return true;
+    }
+    out < 2047
+}
+
+// Whether an address is one of the gateways.
+fn is_gateway(gateways: [Node; 4], a: Node) -> bool
+    ensures { λ r. ⌜ r ≡ isGate a (those present gateways) ⌝ }
+{
+    let mut i: usize = 0;
+    while i < 4 {
+        let g = gateways[i];
+        if is_seat_of(g, a) {
+            return true;
+        }
+        i = i + 1;
+    }
+    false
+}
+
+fn is_seat_of(g: Node, a: Node) -> bool
+    ensures { λ r. ⌜ r ≡ (present g && sameNode a g) ⌝ }
+{
+    if g.is_present() {
+        return a.same(g);
+    }
+    false
+}
+
+// The lowest free slot, or 8.
+fn lowest_free(t: Table) -> usize
+    ensures { λ r. ⌜ r ≡ firstAt isFree (t .slots) ⌝ }
+{
+    let mut i: usize = 0;
+    while i < 8 {
+        if t.slots[i].live != 1 {
+            return i;
+        }
+        i = i + 1;
+    }
+    8
+}
+
+fn count_free(t: Table) -> usize
+    ensures { λ r. ⌜ r ≡ free (t .slots) ⌝ }
+{
+    let mut found: usize = 0;
+    let mut i: usize = 0;
+    while i < 8 {
+        if t.slots[i].live != 1 {
+            found = found + 1;
+        }
+        i = i + 1;
+    }
+    found
+}
+
+fn count_held(t: Table, g: Node) -> usize
+    ensures { λ r. ⌜ r ≡ held g (t .slots) ⌝ }
+{
+    let mut n: usize = 0;
+    let mut i: usize = 0;
+    while i < 8 {
+        let s = t.slots[i];
+        if s.is_of(g) {
+            n = n + 1;
+        }
+        i = i + 1;
+    }
+    n
+}
+
+// Whether a seat is that of another gateway than g that holds no slot.
+fn is_idle_other(t: Table, h: Node, g: Node) -> bool
+    ensures { λ r. ⌜ r ≡ (present h && (not (sameNode h g) && eqb (held h (t .slots)) 0)) ⌝ }
+{
+    if h.is_present() {
+        if h.same(g) {
+            return false;
+        }
+        return count_held(t, h) == 0;
+    }
+    false
+}
+
+fn count_idle_others(t: Table, g: Node) -> usize
+    ensures { λ r. ⌜ r ≡ idleOthers g (gatesOf t) (t .slots) ⌝ }
+{
+    let mut n: usize = 0;
+    let mut i: usize = 0;
+    while i < 4 {
+        let h = t.gateways[i];
+        if is_idle_other(t, h, g) {
+            n = n + 1;
+        }
+        i = i + 1;
+    }
+    n
+}
+
+// The slot that a gateway may open, or 8.
+fn to_open(t: Table, g: Node) -> usize
+    ensures { λ r. ⌜ r ≡ opening g (gatesOf t) (t .slots) ⌝ }
+{
+    let h = count_held(t, g);
+    if h == 0 {
+        return lowest_free(t);
+    }
+    if h < 3 {
+        if count_idle_others(t, g) < count_free(t) {
+            return lowest_free(t);
+        }
+    }
+    8
+}
+
+// A part under the key of slot i, whose record is s; the slot's bytes are lent on.
+fn offer_at(
+    s: Slot,
+    i: usize,
+    mem: &mut [u8],
+    offset: Units,
+    elided: bool,
+    part: &[u8],
+    out: &mut [u8],
+) -> InSlot
+    requires { ⌜ (i < 8) × (16384 ≤ length (now mem)) ⌝ }
+    requires { ⌜ Ready (s .key .size) (offset .0) (now part) (chunk i (now mem)) (now out) ⌝ }
+    ensures { λ r. ⌜ Lands r i (now (mem .entry)) (now (mem .exit)) (now (out .entry)) (now (out .exit)) (offer s (chunk i (now (mem .entry))) (partOf (s .key) (offset .0) elided (now (part .entry)))) ⌝ }
+{
+    let from = i * 2048;
+    let to = from + 2048;
+    offer_part(s, &mut mem[from..to], offset, elided, part, out)
+}
+
+// A part that opens slot i with the record s.
+fn place_at(
+    s: Slot,
+    i: usize,
+    mem: &mut [u8],
+    offset: Units,
+    elided: bool,
+    part: &[u8],
+    out: &mut [u8],
+) -> InSlot
+    requires { ⌜ (i < 8) × (16384 ≤ length (now mem)) ⌝ }
+    requires { ⌜ Ready (s .key .size) (offset .0) (now part) (chunk i (now mem)) (now out) ⌝ }
+    ensures { λ r. ⌜ Lands r i (now (mem .entry)) (now (mem .exit)) (now (out .entry)) (now (out .exit)) (place s (chunk i (now (mem .entry))) (partOf (s .key) (offset .0) elided (now (part .entry)))) ⌝ }
+{
+    let start = i * 2048;
+    let end = start + 2048;
+    place_part(s, &mut mem[start..end], offset, elided, part, out)
+}
+
+// A part that comes at a time: the checks of the scope document in its order, then the slot of its key, or one that is
+// opened. The one function that writes the table.
+pub fn receive_part(
+    table: Table,
+    time: u64,
+    key: Key,
+    offset: Units,
+    elided: bool,
+    part: &[u8],
+    mem: &mut [u8],
+    out: &mut [u8],
+) -> Received
+    ensures { λ r. ⌜ Gives r (now (mem .exit)) (now (out .entry)) (now (out .exit)) (step (record { table = table; mem = now (mem .entry) }) (partCall (now (mem .entry)) (now (out .entry)) time (partOf key (offset .0) elided (now (part .entry))))) ⌝ }
+{
+    let mut x = table;
+    if is_short(mem.len(), out.len()) {
+        let answer = Outcome::Refused(Refusal::NoRoom);
+        return Received { answer, table: x };
+    }
+    if time < x.last {
+        let answer = Outcome::Refused(Refusal::EarlierTime);
+        return Received { answer, table: x };
+    }
+    let mut i: usize = 0;
+    while i < 8 {
+        let live = x.slots[i].live;
+        let since = x.slots[i].since;
+        if is_expired(live, since, time) {
+            let s = Slot::free();
+            x.slots[i] = s;
+        }
+        i = i + 1;
+    }
+    x.last = time;
+    let src = key.src;
+    let gateways = x.gateways;
+    if !is_gateway(gateways, src) {
+        let answer = Outcome::Refused(Refusal::NotGateway);
+        return Received { answer, table: x };
+    }
+    if !fits(key.size, offset, part.len()) {
+        let answer = Outcome::Refused(Refusal::BadPart);
+        return Received { answer, table: x };
+    }
+    let mut f: usize = 0;
+    while f < 8 {
+        let s = x.slots[f];
+        if s.has_key(key) {
+            break;
+        }
+        f = f + 1;
+    }
+    if f < 8 {
+        let s = x.slots[f];
+        let d = offer_at(s, f, mem, offset, elided, part, out);
+        let answer = d.outcome;
+        let z = d.slot;
+        x.slots[f] = z;
+        return Received { answer, table: x };
+    }
+    let low = to_open(x, src);
+    if low < 8 {
+        let s = Slot::opened(key, time);
+        let d = place_at(s, low, mem, offset, elided, part, out);
+        let answer = d.outcome;
+        let z = d.slot;
+        x.slots[low] = z;
+        return Received { answer, table: x };
+    }
+    let answer = Outcome::Refused(Refusal::NoSlot);
+    Received { answer, table: x }
+}
