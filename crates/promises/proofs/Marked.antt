@@ -1,4 +1,4 @@
--- The marked examples of the scope document, one statement over the list. K12 joins it with the table.
+-- The marked examples of the scope document, one statement over the list.
 use Prim.Native.Nat.{ℕ}
 use mathlib.Core.List.{List, [], _∷_}
 use mathlib.Core.Bool.{true, false}
@@ -27,6 +27,9 @@ use Rattle.sixlowpan.specs.declared.nhc.ExtHeaderId.the-variants.{Reserved}
 use Rattle.sixlowpan.specs.declared.nhc.ExtHeaderRepr.{ExtHeaderRepr}
 use Rattle.iphc.proofs.Examples.{k1-k5}
 use Rattle.sixlowpan.proofs.Examples.{k6-k7-k8-k10, k9}
+use Rattle.reassembly.specs.Slots.{opened, expired}
+use Rattle.reassembly.specs.declared.slot.Key.{Key}
+use Rattle.reassembly.proofs.Promises.{k12-held, k12-gone}
 
 -- "With source ext 0011223344556677, destination short abcd"; no contexts
 abbrev source : AddressField
@@ -105,6 +108,9 @@ pub record Marked : Type 0 where
   pub k10-emits : extBytes reserved ≡ 0xea ∷ 0x3a ∷ 0x04 ∷ []
   pub k11 : mac frameBytes ≡ got frame 9
   pub k11-emits : Mac.bytesOf frame ≡ frameBytes
+  -- a slot opened at 0 is held at 59,999, gone at 60,000
+  pub k12-held : (k : Key) → expired 59999 (opened k 0) ≡ false
+  pub k12-gone : (k : Key) → expired 60000 (opened k 0) ≡ true
 
 pub marked : Marked
 marked =
@@ -127,4 +133,6 @@ marked =
       k10-emits = k6-k7-k8-k10 .4;
       k11 = k11 .0;
       k11-emits = k11 .1;
+      k12-held = k12-held;
+      k12-gone = k12-gone;
     }

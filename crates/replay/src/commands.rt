@@ -9,6 +9,7 @@ use super::room;
 use super::room::Emitted;
 use check::same;
 
+// `Unknown` is answered `bad`, as a command whose fields are not of their kinds is.
 enum Command {
     MacParse,
     MacEmit,
@@ -67,6 +68,7 @@ fn named(name: &[u8]) -> Command {
     }
 }
 
+// More of them: in a function of their own, since the checker's work on one grows faster than its arms.
 fn named_on(name: &[u8]) -> Command {
     match fields::at(name, 0) {
         b'u' => either(
@@ -175,7 +177,8 @@ fn is_emit(c: Command) -> bool {
     }
 }
 
-// The answer to a line whose name is given and whose fields start at a place.
+// The answer to a line whose name is given and whose fields start at a place. `a` is lent for the bytes of its fields, or as a
+// writer's room.
 pub fn answer(
     name: &[u8],
     line: &[u8],

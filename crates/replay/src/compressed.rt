@@ -70,6 +70,7 @@ fn ask(line: &[u8], from: usize, a: &mut [u8]) -> Query {
     let ll_dst = fields::link(line, ll_src.next);
     let src = ll_src.value;
     let dst = ll_dst.value;
+    // The contexts go behind the header's bytes, so that one room serves both.
     let n = fields::least(bytes.count, a.len());
     let contexts = fields::last_bytes(line, ll_dst.next, &mut a[n..]);
     Query {

@@ -33,6 +33,7 @@ struct Done {
     well: bool,
 }
 
+// Puts the answer to a line, and its end.
 fn answered(text: &[u8], a: &mut [u8], out: &mut [u8], to: usize) -> usize {
     if fields::at(text, 0) == b'#' {
         let n = print::text(out, to, text);
@@ -74,7 +75,7 @@ fn drained(d: Done, out: &[u8], len: usize) -> Done {
     d
 }
 
-// Answers the line that ends at `end`, unless it is passed over.
+// Answers the line that ends at `end`, unless it is the end of one that was too long.
 fn ended(input: &[u8], end: usize, d: Done, a: &mut [u8], out: &mut [u8]) -> Done {
     let start = d.start;
     if input.len() <= end {

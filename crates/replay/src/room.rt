@@ -7,7 +7,7 @@ use text::print;
 // The largest room.
 const MOST: usize = 512;
 
-// What stands in a room before a writer runs.
+// What stands in a room before a writer runs: a byte written past the header is seen.
 const FILL: u8 = 0xa5;
 
 // What a writer did: the length that it announced, the room that it was lent, NONE where the line is no command, and its answer.

@@ -1,7 +1,7 @@
-use Rattle.receiver.proofs.Steps.{on-whole, no-whole}
+use Rattle.incoming.proofs.Steps.{payloads}
 use borrow.Author.Needs.{needs}
-use Rattle.receiver.proofs.payload.read_whole.Statement.{statement}
-use Rattle.receiver.proofs.payload.read_whole.Tie as tie
+use Rattle.incoming.proofs.payload.read_whole.Statement.{statement}
+use Rattle.incoming.proofs.payload.read_whole.Tie as tie
 
 expand-requires : tie.Need-expand-requires
 expand-requires c κs = search needs
@@ -16,13 +16,13 @@ same-length : tie.Need-same-length
 same-length c = search needs
 
 returns : tie.Need-returns
-returns c = search on-whole
+returns c = search payloads
 
 same-length-2 : tie.Need-same-length-2
 same-length-2 c = search needs
 
 returns-2 : tie.Need-returns-2
-returns-2 c = search no-whole
+returns-2 c = search payloads
 
 pub read-whole-spec : {M : Type 1} → statement M
 read-whole-spec =

@@ -1,9 +1,10 @@
-use Rattle.sixlowpan.proofs.HeaderSteps.{header-steps}
-use Rattle.receiver.proofs.Steps.{kind-fragment, kind-iphc}
-use Rattle.receiver.specs.Incoming.{payload}
+use Rattle.incoming.proofs.Steps.{payloads}
 use borrow.Author.Needs.{needs}
-use Rattle.receiver.proofs.payload.Payload.read.Statement.{statement}
-use Rattle.receiver.proofs.payload.Payload.read.Tie as tie
+use Rattle.incoming.proofs.payload.Payload.read.Statement.{statement}
+use Rattle.incoming.proofs.payload.Payload.read.Tie as tie
+
+returns : tie.Need-returns
+returns c = search payloads
 
 dispatch-at-requires : tie.Need-dispatch-at-requires
 dispatch-at-requires c κs = search needs
@@ -29,25 +30,23 @@ enum-known-e c = search needs
 same-length : tie.Need-same-length
 same-length c = search needs
 
-returns : tie.Need-returns
-unfolding payload
-returns c = search (header-steps, kind-fragment)
+returns-2 : tie.Need-returns-2
+returns-2 c = search payloads
 
 same-length-2 : tie.Need-same-length-2
 same-length-2 c = search needs
 
-returns-2 : tie.Need-returns-2
-unfolding payload
-returns-2 c = search (header-steps, kind-fragment, kind-iphc)
-
 returns-3 : tie.Need-returns-3
-unfolding payload
-returns-3 c = search header-steps
+returns-3 c = search payloads
+
+returns-4 : tie.Need-returns-4
+returns-4 c = search payloads
 
 pub read-spec : {M : Type 1} → statement M
 read-spec =
     tie.close
     (tie.spec
+    returns
     dispatch-at-requires
     enum-known-kind
     enum-told
@@ -56,7 +55,7 @@ read-spec =
     read-whole-requires
     enum-known-e
     same-length
-    returns
-    same-length-2
     returns-2
-    returns-3)
+    same-length-2
+    returns-3
+    returns-4)

@@ -1,7 +1,7 @@
 use mathlib.Core.Path.{_≡_, refl}
 use borrow.Author.Needs.{needs}
-use Rattle.receiver.proofs.arrival.Arrival.of.Statement.{statement}
-use Rattle.receiver.proofs.arrival.Arrival.of.Tie as tie
+use Rattle.incoming.proofs.arrival.Arrival.of.Statement.{statement}
+use Rattle.incoming.proofs.arrival.Arrival.of.Tie as tie
 
 address-of-requires : tie.Need-address-of-requires
 address-of-requires c κs = search needs

@@ -1,8 +1,7 @@
-use Rattle.sixlowpan.proofs.HeaderSteps.{header-steps}
-use Rattle.receiver.specs.Incoming.{fragment}
+use Rattle.incoming.proofs.Steps.{payloads}
 use borrow.Author.Needs.{needs}
-use Rattle.receiver.proofs.payload.read_fragment.Statement.{statement}
-use Rattle.receiver.proofs.payload.read_fragment.Tie as tie
+use Rattle.incoming.proofs.payload.read_fragment.Statement.{statement}
+use Rattle.incoming.proofs.payload.read_fragment.Tie as tie
 
 read-requires : tie.Need-read-requires
 read-requires c κs = search needs
@@ -20,12 +19,10 @@ same-length : tie.Need-same-length
 same-length c = search needs
 
 returns : tie.Need-returns
-unfolding fragment
-returns c = search header-steps
+returns c = search payloads
 
 returns-2 : tie.Need-returns-2
-unfolding fragment
-returns-2 c = search header-steps
+returns-2 c = search payloads
 
 pub read-fragment-spec : {M : Type 1} → statement M
 read-fragment-spec =

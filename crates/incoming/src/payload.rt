@@ -1,8 +1,7 @@
 // A frame's payload: a whole datagram, or a part of one.
-ghost use mathlib.Core.Path.{_≡_};
 ghost use Prim.Native.Nat.{_≤_};
 ghost use lib.ListN.{length};
-ghost use Rattle.receiver.specs.Incoming.{ofPayload, whole, piece, fragment, payload};
+ghost use Rattle.incoming.specs.Incoming.{Brings, whole, piece, fragment, payloadIn};
 use super::arrival::Arrival;
 use expand::Expanded;
 use expand::expand;
@@ -37,7 +36,7 @@ pub enum Payload {
 // An unfragmented datagram.
 fn read_whole(frame: &[u8], a: Arrival, contexts: &[u8], scratch: &mut [u8]) -> Payload
     requires { ⌜ 175 ≤ length (now scratch) ⌝ }
-    ensures { λ r. ⌜ ofPayload r (now (scratch .exit)) (now (frame .entry)) ≡ whole (now (contexts .entry)) a (now (frame .entry)) ⌝ }
+    ensures { λ r. ⌜ Brings r (now (scratch .entry)) (now (scratch .exit)) (now (frame .entry)) (whole (now (contexts .entry)) a (now (frame .entry))) ⌝ }
 {
     let src = a.src;
     let dst = a.dst;
@@ -60,7 +59,7 @@ fn read_part(
     scratch: &mut [u8],
 ) -> Payload
     requires { ⌜ 175 ≤ length (now scratch) ⌝ }
-    ensures { λ r. ⌜ ofPayload r (now (scratch .exit)) (now (frame .entry)) ≡ piece (now (contexts .entry)) a h next (now (frame .entry)) ⌝ }
+    ensures { λ r. ⌜ Brings r (now (scratch .entry)) (now (scratch .exit)) (now (frame .entry)) (piece (now (contexts .entry)) a h next (now (frame .entry))) ⌝ }
 {
     match h {
         frag::Repr::FirstFragment { size, tag } => {
@@ -95,7 +94,7 @@ fn read_part(
 
 fn read_fragment(frame: &[u8], a: Arrival, contexts: &[u8], scratch: &mut [u8]) -> Payload
     requires { ⌜ 175 ≤ length (now scratch) ⌝ }
-    ensures { λ r. ⌜ ofPayload r (now (scratch .exit)) (now (frame .entry)) ≡ fragment (now (contexts .entry)) a (now (frame .entry)) ⌝ }
+    ensures { λ r. ⌜ Brings r (now (scratch .entry)) (now (scratch .exit)) (now (frame .entry)) (fragment (now (contexts .entry)) a (now (frame .entry))) ⌝ }
 {
     match frag::Repr::read(frame, Cursor { at: a.at }) {
         frag::Parsed::Header(h, next) => read_part(frame, a, h, next, contexts, scratch),
@@ -105,10 +104,13 @@ fn read_fragment(frame: &[u8], a: Arrival, contexts: &[u8], scratch: &mut [u8]) 
 
 impl Payload {
     // What stands behind the MAC header: by its dispatch, a compressed header or a fragment header.
-    pub(crate) fn read(frame: &[u8], a: Arrival, contexts: &[u8], scratch: &mut [u8]) -> Payload
-        requires { ⌜ 175 ≤ length (now scratch) ⌝ }
-        ensures { λ r. ⌜ ofPayload r (now (scratch .exit)) (now (frame .entry)) ≡ payload (now (contexts .entry)) a (now (frame .entry)) ⌝ }
+    // The scratch holds what is expanded: 7 where it is shorter than the longest expansion, 175 bytes.
+    pub fn read(frame: &[u8], a: Arrival, contexts: &[u8], scratch: &mut [u8]) -> Payload
+        ensures { λ r. ⌜ Brings r (now (scratch .entry)) (now (scratch .exit)) (now (frame .entry)) (payloadIn (now (scratch .entry)) (now (contexts .entry)) a (now (frame .entry))) ⌝ }
     {
+        if scratch.len() < 175 {
+            return Payload::Refused(Refusal::NoRoom);
+        }
         match SixlowpanPacket::dispatch_at(frame, Cursor { at: a.at }) {
             DispatchAnswer::Is(kind) => match kind {
                 SixlowpanPacket::FragmentHeader => read_fragment(frame, a, contexts, scratch),

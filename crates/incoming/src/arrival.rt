@@ -1,6 +1,6 @@
 // A frame's MAC header, judged.
 ghost use mathlib.Core.Path.{_≡_};
-ghost use Rattle.receiver.specs.Incoming.{ofArrival, addressOf, arrivalOf, arrival};
+ghost use Rattle.incoming.specs.Incoming.{ofArrival, addressOf, arrivalOf, arrival};
 use ieee802154::Address;
 use ieee802154::AddressField;
 use ieee802154::Parsed;
@@ -41,7 +41,7 @@ impl Arrival {
     }
 
     // The refusals of the MAC header, and then 13: secured, or not a Data frame.
-    pub(crate) fn read(frame: &[u8]) -> ArrivalAnswer
+    pub fn read(frame: &[u8]) -> ArrivalAnswer
         ensures { λ r. ⌜ ofArrival r ≡ arrival (now (frame .entry)) ⌝ }
     {
         match Repr::parse(frame) {

@@ -2,10 +2,12 @@
 use Prim.Native.Nat.{ℕ}
 use mathlib.Core.List.{List}
 use mathlib.Core.Bool.{Bool, true, false}
+use mathlib.Core.Path.{_≡_}
 use lib.ListN.{length, take, drop}
-use lib.Dec.{eqb}
+use lib.Dec.{eqb, leb}
 use Rattle.octets.specs.Read.{Answer, is, refused, Placed, andThen, choose}
 use Rattle.octets.specs.Refusal.{numberOf}
+use Rattle.octets.specs.Write.{over}
 use Rattle.octets.specs.declared.field.WordField.{WordField}
 use Rattle.ieee802154.specs.Mac.{mac}
 use Rattle.ieee802154.specs.declared.addr.Address.{Address}
@@ -19,9 +21,9 @@ use Rattle.sixlowpan.specs.declared.dispatch.SixlowpanPacket.the-variants.{Frag
 use Rattle.sixlowpan.specs.declared.frag.Repr.{Repr}
 use Rattle.sixlowpan.specs.declared.frag.Repr.the-variants.{FirstFragment, Fragment}
 use Rattle.expand.specs.Expand.{Expansion, expansion}
-use Rattle.receiver.specs.declared.arrival.Arrival.{Arrival}
-use Rattle.receiver.specs.declared.arrival.ArrivalAnswer.{ArrivalAnswer}
-use Rattle.receiver.specs.declared.payload.Payload.{Payload}
+use Rattle.incoming.specs.declared.arrival.Arrival.{Arrival}
+use Rattle.incoming.specs.declared.arrival.ArrivalAnswer.{ArrivalAnswer}
+use Rattle.incoming.specs.declared.payload.Payload.{Payload}
 
 -- ---- who sends it to whom, and where its payload begins
 abbrev pub ofArrival : ArrivalAnswer → Answer Arrival
@@ -55,6 +57,12 @@ ofPayload (Payload.First size tag n e) sc s = is (part size tag 0 (take n sc) e)
 ofPayload (Payload.Later size tag o from) sc s = is (part size tag (o .0) (drop from s) false)
 ofPayload (Payload.Refused e) sc s = refused (numberOf e)
 
+-- the scratch after the call: what was expanded stands at its start, and nothing else of it changes
+abbrev pub scratchAfter : Answer Brought → List ℕ → List ℕ
+scratchAfter (is (datagram d)) room = over (length d) d room
+scratchAfter (is (part size tag u bs e)) room = choose (eqb u 0) (over (length bs) bs room) room
+scratchAfter (refused n) room = room
+
 -- an unfragmented datagram is expanded
 unfoldable pub whole : List ℕ → Arrival → List ℕ → Answer Brought
 whole ctx a s = andThen (expansion ctx (AddressField.Some (a .src)) (AddressField.Some (a .dst)) WordField.None s (a .at)) (λ e. is (datagram (e .bytes)))
@@ -75,3 +83,12 @@ byKind IphcHeader ctx a s = whole ctx a s
 -- dispatch (1, 2), and then as it says
 unfoldable pub payload : List ℕ → Arrival → List ℕ → Answer Brought
 payload ctx a s = andThen (dispatch s (a .at)) (λ k. byKind k ctx a s)
+
+-- 7 where the scratch is shorter than the longest expansion
+unfoldable pub payloadIn : List ℕ → List ℕ → Arrival → List ℕ → Answer Brought
+payloadIn room ctx a s = choose (leb 175 (length room)) (payload ctx a s) (refused 7)
+
+-- the answer, and the scratch afterwards, are what b says
+pub record Brings (r : Payload) (room l s : List ℕ) (b : Answer Brought) : Type 0 where
+  pub answer : ofPayload r l s ≡ b
+  pub scratch : l ≡ scratchAfter b room

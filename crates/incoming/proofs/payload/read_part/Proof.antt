@@ -1,7 +1,7 @@
-use Rattle.receiver.proofs.Steps.{on-first, no-first, later-zero, later-some}
+use Rattle.incoming.proofs.Steps.{payloads}
 use borrow.Author.Needs.{needs}
-use Rattle.receiver.proofs.payload.read_part.Statement.{statement}
-use Rattle.receiver.proofs.payload.read_part.Tie as tie
+use Rattle.incoming.proofs.payload.read_part.Statement.{statement}
+use Rattle.incoming.proofs.payload.read_part.Tie as tie
 
 enum-known-h : tie.Need-enum-known-h
 enum-known-h c = search needs
@@ -19,22 +19,22 @@ enum-known-h-2 : tie.Need-enum-known-h-2
 enum-known-h-2 c = search needs
 
 returns : tie.Need-returns
-returns c = search later-zero
+returns c = search payloads
 
 same-length : tie.Need-same-length
 same-length c = search needs
 
 returns-2 : tie.Need-returns-2
-returns-2 c = search on-first
+returns-2 c = search payloads
 
 same-length-2 : tie.Need-same-length-2
 same-length-2 c = search needs
 
 returns-3 : tie.Need-returns-3
-returns-3 c = search no-first
+returns-3 c = search payloads
 
 returns-4 : tie.Need-returns-4
-returns-4 c = search later-some
+returns-4 c = search payloads
 
 pub read-part-spec : {M : Type 1} → statement M
 read-part-spec =

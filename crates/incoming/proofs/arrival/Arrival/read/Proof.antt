@@ -1,10 +1,10 @@
 use Rattle.ieee802154.proofs.HeaderSteps.{header-steps}
 use Rattle.octets.proofs.Steps.{steps}
 use Rattle.octets.proofs.Steps.{flags}
-use Rattle.receiver.specs.Incoming.{arrival}
+use Rattle.incoming.specs.Incoming.{arrival}
 use borrow.Author.Needs.{needs}
-use Rattle.receiver.proofs.arrival.Arrival.read.Statement.{statement}
-use Rattle.receiver.proofs.arrival.Arrival.read.Tie as tie
+use Rattle.incoming.proofs.arrival.Arrival.read.Statement.{statement}
+use Rattle.incoming.proofs.arrival.Arrival.read.Tie as tie
 
 parse-requires : tie.Need-parse-requires
 parse-requires c κs = search needs

@@ -1,0 +1,172 @@
+-- Steps for `search`: what an expansion into a scratch of 175 bytes or more says, which is always enough; and for callers, what the answers of
+-- this crate say of the specification's next step.
+use Prim.Native.Nat.{ℕ, _≤_, _<_}
+use native.Mathlib.Omega.{arith}
+use mathlib.Core.List.{List, _++_}
+use mathlib.Core.Bool.{Bool, true, false}
+use mathlib.Core.Path.{_≡_, refl, sym, ap, ap₂, _∙_}
+use lib.ListN.{length, take, drop}
+use lib.Seq.{take-at}
+use lib.Dec.{leb, eqb}
+use borrow.Author.Tests.{le-leb, lt-leb, eq-eqb, ne-eqb}
+use Rattle.octets.specs.Read.{Answer, is, refused, andThen, choose}
+use Rattle.octets.specs.Refusal.{numberOf}
+use Rattle.octets.specs.declared.refusal.Refusal.{Refusal}
+use Rattle.octets.specs.declared.refusal.Refusal.the-variants.{BadPart, NoRoom}
+use Rattle.octets.specs.declared.field.WordField.{WordField}
+use Rattle.octets.proofs.Steps.{on-is, on-refused}
+use Rattle.octets.proofs.Spans.{not-refused}
+use Rattle.ieee802154.specs.declared.addr.AddressField.{AddressField}
+use Rattle.sixlowpan.specs.declared.dispatch.SixlowpanPacket.{SixlowpanPacket}
+use Rattle.sixlowpan.specs.declared.dispatch.SixlowpanPacket.the-variants.{FragmentHeader, IphcHeader}
+use Rattle.sixlowpan.specs.Dispatch.{ofDispatch, dispatch}
+use Rattle.sixlowpan.specs.Frag.{ofParsed, frag}
+use Rattle.sixlowpan.specs.declared.dispatch.DispatchAnswer.{DispatchAnswer}
+use Rattle.sixlowpan.specs.declared.frag.Parsed.{Parsed}
+use Rattle.sixlowpan.specs.declared.frag.Units.{Units}
+use Rattle.sixlowpan.specs.declared.frag.Repr.{Repr}
+use Rattle.sixlowpan.specs.declared.frag.Repr.the-variants.{FirstFragment, Fragment}
+use Rattle.expand.specs.Expand.{Expansion, Measure, expansion, ofExpanded, measureOf, answered, written}
+use Rattle.expand.specs.declared.datagram.Expanded.{Expanded}
+use Rattle.expand.proofs.Datagrams.{expansion-made, at-most-175}
+use Rattle.incoming.specs.Incoming.{ofArrival, Brought, datagram, part, scratchAfter, whole, piece, fragment, payload, payloadIn, Brings}
+use Rattle.incoming.specs.declared.arrival.Arrival.{Arrival}
+use Rattle.incoming.specs.declared.payload.Payload.{Payload}
+use Rattle.incoming.specs.declared.arrival.ArrivalAnswer.{ArrivalAnswer}
+
+-- ---- an expansion m of at most 175 bytes, into a room of 175 at least
+Small : Answer Expansion → Type 0
+Small m = (e : Expansion) → m ≡ is e → length (e .bytes) ≤ 175
+
+small : (ctx : List ℕ) (ls ld : AddressField) (size : WordField) (s : List ℕ) (at : ℕ) → Small (expansion ctx ls ld size s at)
+unfolding Small
+small ctx ls ld size s at e p = at-most-175 ctx ls ld size s at e (expansion-made ctx ls ld size s at e p)
+
+-- what a datagram of n bytes, and whether its checksum was elided, say
+got-expanded : (m : Answer Expansion) → Small m → (room l : List ℕ) (n : ℕ) (el : Bool) → 175 ≤ length room → ofExpanded (Expanded.Datagram n el) ≡ answered m room → l ≡ written m room
+    → (e : Expansion) × (m ≡ is e) × (take n l ≡ e .bytes) × (el ≡ e .elided)
+unfolding Small
+got-expanded (refused k) h room l n el r p q = not-refused _ k (sym p)
+got-expanded (is e) h room l n el r p q =
+    let b : length (e .bytes) ≤ length room = omega (arith, h e refl) in
+    let g : is (record { len = n; elided = el }) ≡ is (measureOf e) = p ∙ rw (le-leb (length (e .bytes)) (length room) b) refl in
+    let i : n ≡ length (e .bytes) = ap lenOf g in
+    let w : l ≡ e .bytes ++ drop (length (e .bytes)) room = q ∙ rw (le-leb (length (e .bytes)) (length room) b) refl in
+    (e, refl, ap (take n) w ∙ take-at (e .bytes) (drop (length (e .bytes)) room) n (sym i), ap elidedOf g)
+  where
+    lenOf : Answer Measure → ℕ
+    lenOf (is x) = x .len
+    lenOf (refused k) = 0
+
+    elidedOf : Answer Measure → Bool
+    elidedOf (is x) = x .elided
+    elidedOf (refused k) = false
+
+no-expanded : {B : Type 0} (m : Answer Expansion) (k : Expansion → Answer B) → Small m → (room : List ℕ) (e : Refusal) → 175 ≤ length room → ofExpanded (Expanded.Refused e) ≡ answered m room → refused (numberOf e) ≡ andThen m k
+unfolding Small
+no-expanded (refused j) k h room e r p = ap numbered p
+  where
+    numbered : {B : Type 0} → Answer Measure → Answer B
+    numbered (is x) = refused 0
+    numbered (refused n) = refused n
+no-expanded (is x) k h room e r p =
+    let b : length (x .bytes) ≤ length room = omega (arith, h x refl) in
+    let g : refused (numberOf e) ≡ is (measureOf x) = p ∙ rw (le-leb (length (x .bytes)) (length room) b) refl in
+    not-refused (measureOf x) (numberOf e) g
+
+-- what the room holds then
+scratch-whole : (m : Answer Expansion) (room : List ℕ) → written m room ≡ scratchAfter (andThen m (λ e. is (datagram (e .bytes)))) room
+scratch-whole (is e) room = refl
+scratch-whole (refused n) room = refl
+
+scratch-first : (m : Answer Expansion) (size tag : ℕ) (room : List ℕ) → written m room ≡ scratchAfter (andThen m (λ e. is (part size tag 0 (e .bytes) (e .elided)))) room
+scratch-first (is e) size tag room = refl
+scratch-first (refused n) size tag room = refl
+
+module _ (ctx : List ℕ) (a : Arrival) (s : List ℕ) (room l : List ℕ) (y : Expanded) (r : 175 ≤ length room) where
+  abbrev wholly : Answer Expansion
+  wholly = expansion ctx (AddressField.Some (a .src)) (AddressField.Some (a .dst)) WordField.None s (a .at)
+
+  pub on-whole : (n : ℕ) (el : Bool) → ofExpanded y ≡ answered wholly room → l ≡ written wholly room → y ≡ Expanded.Datagram n el → Brings (Payload.Whole n) room l s (whole ctx a s)
+  unfolding whole
+  on-whole n el p q z =
+      let g = got-expanded wholly (small ctx _ _ WordField.None s (a .at)) room l n el r (sym (ap ofExpanded z) ∙ p) q in
+      record {
+        answer = ap (λ t. is (datagram t)) (g .2) ∙ sym (ap (λ t. andThen t (λ e. is (datagram (e .bytes)))) (g .1));
+        scratch = q ∙ scratch-whole wholly room;
+      }
+
+  pub no-whole : (e : Refusal) → ofExpanded y ≡ answered wholly room → l ≡ written wholly room → y ≡ Expanded.Refused e → Brings (Payload.Refused e) room l s (whole ctx a s)
+  unfolding whole
+  no-whole e p q z =
+      record {
+        answer = no-expanded wholly (λ x. is (datagram (x .bytes))) (small ctx _ _ WordField.None s (a .at)) room e r (sym (ap ofExpanded z) ∙ p);
+        scratch = q ∙ scratch-whole wholly room;
+      }
+
+  module _ (size tag next : ℕ) where
+    abbrev firstly : Answer Expansion
+    firstly = expansion ctx (AddressField.Some (a .src)) (AddressField.Some (a .dst)) (WordField.Some size) s next
+
+    pub on-first : (h : Repr) (n : ℕ) (el : Bool) → h ≡ FirstFragment size tag → ofExpanded y ≡ answered firstly room → l ≡ written firstly room → y ≡ Expanded.Datagram n el → Brings (Payload.First size tag n el) room l s (piece ctx a h next s)
+    unfolding piece
+    on-first h n el q p w z =
+        let g = got-expanded firstly (small ctx _ _ (WordField.Some size) s next) room l n el r (sym (ap ofExpanded z) ∙ p) w in
+        rw q
+        (record {
+          answer = ap₂ (λ t u. is (part size tag 0 t u)) (g .2) (g .3) ∙ sym (ap (λ t. andThen t (λ e. is (part size tag 0 (e .bytes) (e .elided)))) (g .1));
+          scratch = w ∙ scratch-first firstly size tag room;
+        })
+
+    pub no-first : (h : Repr) (e : Refusal) → h ≡ FirstFragment size tag → ofExpanded y ≡ answered firstly room → l ≡ written firstly room → y ≡ Expanded.Refused e → Brings (Payload.Refused e) room l s (piece ctx a h next s)
+    unfolding piece
+    no-first h e q p w z =
+        rw q
+        (record {
+          answer = no-expanded firstly (λ x. is (part size tag 0 (x .bytes) (x .elided))) (small ctx _ _ (WordField.Some size) s next) room e r (sym (ap ofExpanded z) ∙ p);
+          scratch = w ∙ scratch-first firstly size tag room;
+        })
+
+-- ---- a later part
+pub later-zero : (ctx : List ℕ) (a : Arrival) (s room : List ℕ) (h : Repr) (size tag next : ℕ) (o : Units) → h ≡ Fragment size tag o → o .0 ≡ 0 → Brings (Payload.Refused BadPart) room room s (piece ctx a h next s)
+unfolding piece
+later-zero ctx a s room h size tag next o q z = rw (q, eq-eqb (o .0) 0 z) (record { answer = refl; scratch = refl })
+
+pub later-some : (ctx : List ℕ) (a : Arrival) (s room : List ℕ) (h : Repr) (size tag next : ℕ) (o : Units) → h ≡ Fragment size tag o → (o .0 ≡ 0 → ⊥) → Brings (Payload.Later size tag o next) room room s (piece ctx a h next s)
+unfolding piece
+later-some ctx a s room h size tag next o q z = rw (q, ne-eqb (o .0) 0 z) (record { answer = refl; scratch = rw (ne-eqb (o .0) 0 z) refl })
+
+-- ---- by the fragment header, and by the dispatch
+pub on-fragment : (r : Payload) (ctx : List ℕ) (a : Arrival) (s room l : List ℕ) (y : Parsed) (h : Repr) (n : ℕ) → ofParsed y ≡ frag s (a .at) → y ≡ Parsed.Header h n → Brings r room l s (piece ctx a h n s) → Brings r room l s (fragment ctx a s)
+unfolding fragment
+on-fragment r ctx a s room l y h n p q b = rw (sym p ∙ ap ofParsed q) b
+
+pub no-fragment : (ctx : List ℕ) (a : Arrival) (s room : List ℕ) (y : Parsed) (e : Refusal) → ofParsed y ≡ frag s (a .at) → y ≡ Parsed.Refused e → Brings (Payload.Refused e) room room s (fragment ctx a s)
+unfolding fragment
+no-fragment ctx a s room y e p q = rw (sym p ∙ ap ofParsed q) (record { answer = refl; scratch = refl })
+
+module _ (ctx : List ℕ) (a : Arrival) (s room l : List ℕ) (y : DispatchAnswer) (p : ofDispatch y ≡ dispatch s (a .at)) (i : 175 ≤ length room) where
+  pub kind-fragment : (r : Payload) (k : SixlowpanPacket) → y ≡ DispatchAnswer.Is k → k ≡ FragmentHeader → Brings r room l s (fragment ctx a s) → Brings r room l s (payloadIn room ctx a s)
+  unfolding payloadIn payload
+  kind-fragment r k q z b = rw (le-leb 175 (length room) i, sym p ∙ ap ofDispatch q, z) b
+
+  pub kind-iphc : (r : Payload) (k : SixlowpanPacket) → y ≡ DispatchAnswer.Is k → k ≡ IphcHeader → Brings r room l s (whole ctx a s) → Brings r room l s (payloadIn room ctx a s)
+  unfolding payloadIn payload
+  kind-iphc r k q z b = rw (le-leb 175 (length room) i, sym p ∙ ap ofDispatch q, z) b
+
+pub no-kind : (ctx : List ℕ) (a : Arrival) (s room : List ℕ) (y : DispatchAnswer) (e : Refusal) → ofDispatch y ≡ dispatch s (a .at) → 175 ≤ length room → y ≡ DispatchAnswer.Refused e → Brings (Payload.Refused e) room room s (payloadIn room ctx a s)
+unfolding payloadIn payload
+no-kind ctx a s room y e p i q = rw (le-leb 175 (length room) i, sym p ∙ ap ofDispatch q) (record { answer = refl; scratch = refl })
+
+pub no-room : (ctx : List ℕ) (a : Arrival) (s room : List ℕ) → length room < 175 → Brings (Payload.Refused NoRoom) room room s (payloadIn room ctx a s)
+unfolding payloadIn
+no-room ctx a s room h = rw (lt-leb 175 (length room) h) (record { answer = refl; scratch = refl })
+
+pub ruleset payloads = (on-whole, no-whole, on-first, no-first, later-zero, later-some, on-fragment, no-fragment, kind-fragment, kind-iphc, no-kind, no-room)
+
+-- ---- for callers
+pub on-arrival : {B : Type 0} {r : Answer B} {y : ArrivalAnswer} {x : Arrival} (m : Answer Arrival) (k : Arrival → Answer B) → ofArrival y ≡ m → y ≡ ArrivalAnswer.Is x → r ≡ k x → r ≡ andThen m k
+on-arrival {x = x} m k p q e = on-is ofArrival (ArrivalAnswer.Is x) x m k refl p q e
+
+pub no-arrival : {B : Type 0} {y : ArrivalAnswer} {e : Refusal} (m : Answer Arrival) (k : Arrival → Answer B) → ofArrival y ≡ m → y ≡ ArrivalAnswer.Refused e → refused (numberOf e) ≡ andThen m k
+no-arrival {e = e} m k p q = on-refused ofArrival (ArrivalAnswer.Refused e) (numberOf e) m k refl p q
