@@ -15,7 +15,7 @@ use Rattle.octets.specs.Refusal.{numberOf}
 use Rattle.octets.specs.declared.refusal.Refusal.{Refusal}
 use Rattle.reassembly.specs.Lists.{count, firstAt, those}
 use Rattle.reassembly.specs.Slots.{present, owner, freeSlot, opened, isFree, isKey, expired, expire1, expire, gatesOf, isGate, free, mayOpen, opening}
-use Rattle.reassembly.specs.Parts.{Part, partOf, Reply, refused, fitsIn, fits, Put, place, offer, Ready}
+use Rattle.reassembly.specs.Parts.{Part, partOf, Reply, refused, fitsIn, fits, Put, place, offer, Placeable}
 use Rattle.reassembly.specs.Table.{State, Result, part, short, chunk, withSlots, untouched, slotsAt, pass, land, whereKey, whereFree, offerAt, openAt, takePart, step, partCall, Lands, Gives}
 use Rattle.reassembly.specs.declared.slot.Key.{Key}
 use Rattle.reassembly.specs.declared.slot.Slot.{Slot}
@@ -94,7 +94,7 @@ or-no true b e = absurd (true≢false e)
 or-no false b e = (refl, e)
 
 pub ready : (k : Key) (u : ℕ) (bs m o : List ℕ) (i : ℕ) → fitsIn (k .size) u (length bs) ≡ true → (ltb (length m) 16384 || ltb (length o) 2047) ≡ false → i < 8
-    → Ready (k .size) u bs (chunk i m) o
+    → Placeable (k .size) u bs (chunk i m) o
 unfolding fitsIn
 ready k u bs m o i f s h =
     let e1 = and-right (leb 40 (k .size)) _ f in

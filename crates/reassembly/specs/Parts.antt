@@ -131,7 +131,7 @@ offer s b p =
 
 -- ---- what the contracts of the functions on one slot say
 -- the part has passed check 10, b are the slot's bytes and the output has room
-pub record Ready (size u : ℕ) (part b o : List ℕ) : Type 0 where
+pub record Placeable (size u : ℕ) (part b o : List ℕ) : Type 0 where
   pub some : 1 ≤ length part
   pub ends : u * 8 + length part ≤ size
   pub small : size ≤ 2047

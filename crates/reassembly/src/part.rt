@@ -8,7 +8,7 @@ ghost use Rattle.octets.specs.Read.{choose};
 ghost use Rattle.octets.specs.Write.{put};
 ghost use Rattle.marks.specs.Marks.{unpack, hasIn};
 ghost use Rattle.reassembly.specs.Lists.{sameList};
-ghost use Rattle.reassembly.specs.Parts.{partOf, units, fitsIn, spans, repeatsIn, takenIn, full, finish, place, offer, Ready, Does};
+ghost use Rattle.reassembly.specs.Parts.{partOf, units, fitsIn, spans, repeatsIn, takenIn, full, finish, place, offer, Placeable, Does};
 use super::slot::Slot;
 use expand::checksum::put_checksum;
 use expand::copy::put_part;
@@ -179,7 +179,7 @@ pub(crate) fn place_part(
     part: &[u8],
     out: &mut [u8],
 ) -> InSlot
-    requires { ⌜ Ready (s .key .size) (offset .0) (now part) (now room) (now out) ⌝ }
+    requires { ⌜ Placeable (s .key .size) (offset .0) (now part) (now room) (now out) ⌝ }
     ensures { λ r. ⌜ Does r (now (room .exit)) (now (out .entry)) (now (out .exit)) (place s (now (room .entry)) (partOf (s .key) (offset .0) elided (now (part .entry)))) ⌝ }
 {
     put_part(room, offset.bytes(), part, 0, part.len());
@@ -205,7 +205,7 @@ pub(crate) fn offer_part(
     part: &[u8],
     out: &mut [u8],
 ) -> InSlot
-    requires { ⌜ Ready (s .key .size) (offset .0) (now part) (now room) (now out) ⌝ }
+    requires { ⌜ Placeable (s .key .size) (offset .0) (now part) (now room) (now out) ⌝ }
     ensures { λ r. ⌜ Does r (now (room .exit)) (now (out .entry)) (now (out .exit)) (offer s (now (room .entry)) (partOf (s .key) (offset .0) elided (now (part .entry)))) ⌝ }
 {
     if is_repeat(s, room, offset, part) {

@@ -9,7 +9,7 @@ ghost use Rattle.octets.specs.declared.refusal.Refusal.{Refusal};
 ghost use Rattle.reassembly.specs.declared.table.Listed.{Listed};
 ghost use Rattle.reassembly.specs.Lists.{count, firstAt, those};
 ghost use Rattle.reassembly.specs.Slots.{sameNode, freeSlot, present, isFree, gatesOf, isGate, held, free, idleOthers, opening};
-ghost use Rattle.reassembly.specs.Parts.{partOf, place, offer, Ready};
+ghost use Rattle.reassembly.specs.Parts.{partOf, place, offer, Placeable};
 ghost use Rattle.reassembly.specs.Table.{chunk, step, partCall, Lands, Gives};
 ghost use Rattle.reassembly.specs.Fresh.{seats, fresh, nodes, unfit, Begins};
 use super::part::InSlot;
@@ -281,7 +281,7 @@ fn offer_at(
     out: &mut [u8],
 ) -> InSlot
     requires { ⌜ (i < 8) × (16384 ≤ length (now mem)) ⌝ }
-    requires { ⌜ Ready (s .key .size) (offset .0) (now part) (chunk i (now mem)) (now out) ⌝ }
+    requires { ⌜ Placeable (s .key .size) (offset .0) (now part) (chunk i (now mem)) (now out) ⌝ }
     ensures { λ r. ⌜ Lands r i (now (mem .entry)) (now (mem .exit)) (now (out .entry)) (now (out .exit)) (offer s (chunk i (now (mem .entry))) (partOf (s .key) (offset .0) elided (now (part .entry)))) ⌝ }
 {
     let from = i * 2048;
@@ -300,7 +300,7 @@ fn place_at(
     out: &mut [u8],
 ) -> InSlot
     requires { ⌜ (i < 8) × (16384 ≤ length (now mem)) ⌝ }
-    requires { ⌜ Ready (s .key .size) (offset .0) (now part) (chunk i (now mem)) (now out) ⌝ }
+    requires { ⌜ Placeable (s .key .size) (offset .0) (now part) (chunk i (now mem)) (now out) ⌝ }
     ensures { λ r. ⌜ Lands r i (now (mem .entry)) (now (mem .exit)) (now (out .entry)) (now (out .exit)) (place s (chunk i (now (mem .entry))) (partOf (s .key) (offset .0) elided (now (part .entry)))) ⌝ }
 {
     let start = i * 2048;
