@@ -252,6 +252,7 @@ placed-made k h s b p d H e f c sk a = by-test (full (taken s p))
       d₀ = take ((taken s p) .key .size) (written b p);
       made = y′;
       sized = length-take-le ((taken s p) .key .size) (written b p) (omega (arith, H′ .bytes-len, F .small)) ∙ kz;
+      bounded = omega (arith, F .small);
       each = λ i hi.
           let w = full→covers k (p ∷ h) (taken s p) (written b p) H′ tk x i hi in (
             w .0,

@@ -70,5 +70,6 @@ pub record MadeOf (k : Key) (hs : List Part) (d : List ℕ) : Type 0 where
   pub d₀ : List ℕ
   pub made : d ≡ finish elided d₀
   pub sized : length d₀ ≡ k .size
+  pub bounded : k .size ≤ 2047
   pub each : (x : ℕ) → x < k .size → (q : Part) × In q hs × (q .key ≡ k) × Has q x × (getD d₀ x 0 ≡ getD (q .bytes) (x - q .unit * 8) 0)
   pub when : elided ≡ true → (q : Part) × In q hs × (q .unit ≡ 0) × (q .elided ≡ true)

@@ -178,6 +178,15 @@ did-gates σ (passed t a h w v) = refl
 did-gates σ (offered t p i O) = refl
 did-gates σ (opens t p j O) = refl
 
+-- the lent memory keeps its length
+pub did-length : {c : Call} {r : Result} (σ : State) → Did σ c r → length (r .state .mem) ≡ length (σ .mem)
+unfolding untouched offerAt openAt pass land
+did-length σ lacking = refl
+did-length σ (stale t h w) = refl
+did-length σ (passed t a h w v) = refl
+did-length σ (offered t p i O) = length-splice (σ .mem) i _
+did-length σ (opens t p j O) = length-splice (σ .mem) j _
+
 -- ---- openings, endings and free slots
 
 free-at : (σ : State) (t : ℕ) → free (slotsAt t σ) ≡ free (σ .table .slots) + aged t σ
@@ -502,3 +511,8 @@ pub run-gates : (cs : List Call) (σ : State) → Good σ → gatesOf (run σ cs
 unfolding run next
 run-gates [] σ G = refl
 run-gates (c ∷ cs) σ G = run-gates cs (next σ c) (did-good σ G (step-did σ c G)) ∙ did-gates σ (step-did σ c G)
+
+pub run-length : (cs : List Call) (σ : State) → Good σ → length (run σ cs .mem) ≡ length (σ .mem)
+unfolding run next
+run-length [] σ G = refl
+run-length (c ∷ cs) σ G = run-length cs (next σ c) (did-good σ G (step-did σ c G)) ∙ did-length σ (step-did σ c G)
