@@ -139,7 +139,7 @@ later-zero ctx a s room h size tag next o q z = rw (q, eq-eqb (o .0) 0 z) (recor
 
 pub later-some : (ctx : List ℕ) (a : Arrival) (s room : List ℕ) (h : Repr) (size tag next : ℕ) (o : Units) → h ≡ Fragment size tag o → (o .0 ≡ 0 → ⊥) → next ≤ length s → Brings (Payload.Later size tag o next) room room s (piece ctx a h next s)
 unfolding piece
-later-some ctx a s room h size tag next o q z i = rw (q, ne-eqb (o .0) 0 z) (record { answer = refl; within = i; scratch = rw (ne-eqb (o .0) 0 z) refl })
+later-some ctx a s room h size tag next o q z i = rw (q, ne-eqb (o .0) 0 z) (record { answer = refl; within = (i, omega (arith, z)); scratch = rw (ne-eqb (o .0) 0 z) refl })
 
 -- ---- by the fragment header, and by the dispatch
 pub header-within : (s : List ℕ) (at n : ℕ) (h : Repr) (y : Parsed) → ofParsed y ≡ frag s at → y ≡ Parsed.Header h n → n ≤ length s

@@ -88,11 +88,11 @@ payload ctx a s = andThen (dispatch s (a .at)) (λ k. byKind k ctx a s)
 unfoldable pub payloadIn : List ℕ → List ℕ → Arrival → List ℕ → Answer Brought
 payloadIn room ctx a s = choose (leb 175 (length room)) (payload ctx a s) (refused 7)
 
--- what the answer points at lies within the scratch l and the frame s
+-- what the answer points at lies within the scratch l and the frame s; a later part is not at the start
 abbrev pub Within : Payload → List ℕ → List ℕ → Type 0
 Within (Payload.Whole n) l s = n ≤ length l
 Within (Payload.First size tag n e) l s = n ≤ length l
-Within (Payload.Later size tag o from) l s = from ≤ length s
+Within (Payload.Later size tag o from) l s = (from ≤ length s) × (1 ≤ o .0)
 Within (Payload.Refused e) l s = Unit {0}
 
 -- the answer, and the scratch afterwards, are what b says

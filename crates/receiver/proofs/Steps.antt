@@ -81,4 +81,4 @@ module _ (r : Payload) (room l s : List ℕ) (b : Answer Brought) (h : Brings r 
   first-within size tag n el e = rw e at (h .within)
 
   pub later-within : (size tag : ℕ) (u : Units) (from : ℕ) → r ≡ Payload.Later size tag u from → from ≤ length s
-  later-within size tag u from e = rw e at (h .within)
+  later-within size tag u from e = (rw e at (h .within)) .0
