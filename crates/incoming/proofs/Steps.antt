@@ -5,7 +5,7 @@ use native.Mathlib.Omega.{arith}
 use mathlib.Core.List.{List, _++_}
 use mathlib.Core.Bool.{Bool, true, false}
 use mathlib.Core.Path.{_≡_, refl, sym, ap, ap₂, _∙_}
-use lib.ListN.{length, take, drop}
+use lib.ListN.{length, take, drop, length-append}
 use lib.Seq.{take-at}
 use lib.Dec.{leb, eqb}
 use borrow.Author.Tests.{le-leb, lt-leb, eq-eqb, ne-eqb}
@@ -21,6 +21,7 @@ use Rattle.sixlowpan.specs.declared.dispatch.SixlowpanPacket.{SixlowpanPacket}
 use Rattle.sixlowpan.specs.declared.dispatch.SixlowpanPacket.the-variants.{FragmentHeader, IphcHeader}
 use Rattle.sixlowpan.specs.Dispatch.{ofDispatch, dispatch}
 use Rattle.sixlowpan.specs.Frag.{ofParsed, frag}
+use Rattle.sixlowpan.proofs.FragSpans.{frag-within}
 use Rattle.sixlowpan.specs.declared.dispatch.DispatchAnswer.{DispatchAnswer}
 use Rattle.sixlowpan.specs.declared.frag.Parsed.{Parsed}
 use Rattle.sixlowpan.specs.declared.frag.Units.{Units}
@@ -44,7 +45,7 @@ small ctx ls ld size s at e p = at-most-175 ctx ls ld size s at e (expansion-mad
 
 -- what a datagram of n bytes, and whether its checksum was elided, say
 got-expanded : (m : Answer Expansion) → Small m → (room l : List ℕ) (n : ℕ) (el : Bool) → 175 ≤ length room → ofExpanded (Expanded.Datagram n el) ≡ answered m room → l ≡ written m room
-    → (e : Expansion) × (m ≡ is e) × (take n l ≡ e .bytes) × (el ≡ e .elided)
+    → (e : Expansion) × (m ≡ is e) × (take n l ≡ e .bytes) × (el ≡ e .elided) × (n ≤ length l)
 unfolding Small
 got-expanded (refused k) h room l n el r p q = not-refused _ k (sym p)
 got-expanded (is e) h room l n el r p q =
@@ -52,7 +53,7 @@ got-expanded (is e) h room l n el r p q =
     let g : is (record { len = n; elided = el }) ≡ is (measureOf e) = p ∙ rw (le-leb (length (e .bytes)) (length room) b) refl in
     let i : n ≡ length (e .bytes) = ap lenOf g in
     let w : l ≡ e .bytes ++ drop (length (e .bytes)) room = q ∙ rw (le-leb (length (e .bytes)) (length room) b) refl in
-    (e, refl, ap (take n) w ∙ take-at (e .bytes) (drop (length (e .bytes)) room) n (sym i), ap elidedOf g)
+    (e, refl, ap (take n) w ∙ take-at (e .bytes) (drop (length (e .bytes)) room) n (sym i), ap elidedOf g, omega (arith, i, ap length w, length-append (e .bytes) (drop (length (e .bytes)) room)))
   where
     lenOf : Answer Measure → ℕ
     lenOf (is x) = x .len
@@ -93,6 +94,7 @@ module _ (ctx : List ℕ) (a : Arrival) (s : List ℕ) (room l : List ℕ) (y : 
       let g = got-expanded wholly (small ctx _ _ WordField.None s (a .at)) room l n el r (sym (ap ofExpanded z) ∙ p) q in
       record {
         answer = ap (λ t. is (datagram t)) (g .2) ∙ sym (ap (λ t. andThen t (λ e. is (datagram (e .bytes)))) (g .1));
+        within = g .4;
         scratch = q ∙ scratch-whole wholly room;
       }
 
@@ -101,6 +103,7 @@ module _ (ctx : List ℕ) (a : Arrival) (s : List ℕ) (room l : List ℕ) (y : 
   no-whole e p q z =
       record {
         answer = no-expanded wholly (λ x. is (datagram (x .bytes))) (small ctx _ _ WordField.None s (a .at)) room e r (sym (ap ofExpanded z) ∙ p);
+        within = tt;
         scratch = q ∙ scratch-whole wholly room;
       }
 
@@ -115,6 +118,7 @@ module _ (ctx : List ℕ) (a : Arrival) (s : List ℕ) (room l : List ℕ) (y : 
         rw q
         (record {
           answer = ap₂ (λ t u. is (part size tag 0 t u)) (g .2) (g .3) ∙ sym (ap (λ t. andThen t (λ e. is (part size tag 0 (e .bytes) (e .elided)))) (g .1));
+          within = g .4;
           scratch = w ∙ scratch-first firstly size tag room;
         })
 
@@ -124,26 +128,30 @@ module _ (ctx : List ℕ) (a : Arrival) (s : List ℕ) (room l : List ℕ) (y : 
         rw q
         (record {
           answer = no-expanded firstly (λ x. is (part size tag 0 (x .bytes) (x .elided))) (small ctx _ _ (WordField.Some size) s next) room e r (sym (ap ofExpanded z) ∙ p);
+          within = tt;
           scratch = w ∙ scratch-first firstly size tag room;
         })
 
 -- ---- a later part
 pub later-zero : (ctx : List ℕ) (a : Arrival) (s room : List ℕ) (h : Repr) (size tag next : ℕ) (o : Units) → h ≡ Fragment size tag o → o .0 ≡ 0 → Brings (Payload.Refused BadPart) room room s (piece ctx a h next s)
 unfolding piece
-later-zero ctx a s room h size tag next o q z = rw (q, eq-eqb (o .0) 0 z) (record { answer = refl; scratch = refl })
+later-zero ctx a s room h size tag next o q z = rw (q, eq-eqb (o .0) 0 z) (record { answer = refl; within = tt; scratch = refl })
 
-pub later-some : (ctx : List ℕ) (a : Arrival) (s room : List ℕ) (h : Repr) (size tag next : ℕ) (o : Units) → h ≡ Fragment size tag o → (o .0 ≡ 0 → ⊥) → Brings (Payload.Later size tag o next) room room s (piece ctx a h next s)
+pub later-some : (ctx : List ℕ) (a : Arrival) (s room : List ℕ) (h : Repr) (size tag next : ℕ) (o : Units) → h ≡ Fragment size tag o → (o .0 ≡ 0 → ⊥) → next ≤ length s → Brings (Payload.Later size tag o next) room room s (piece ctx a h next s)
 unfolding piece
-later-some ctx a s room h size tag next o q z = rw (q, ne-eqb (o .0) 0 z) (record { answer = refl; scratch = rw (ne-eqb (o .0) 0 z) refl })
+later-some ctx a s room h size tag next o q z i = rw (q, ne-eqb (o .0) 0 z) (record { answer = refl; within = (i, omega (arith, z)); scratch = rw (ne-eqb (o .0) 0 z) refl })
 
 -- ---- by the fragment header, and by the dispatch
+pub header-within : (s : List ℕ) (at n : ℕ) (h : Repr) (y : Parsed) → ofParsed y ≡ frag s at → y ≡ Parsed.Header h n → n ≤ length s
+header-within s at n h y p q = frag-within s at n h (sym p ∙ ap ofParsed q)
+
 pub on-fragment : (r : Payload) (ctx : List ℕ) (a : Arrival) (s room l : List ℕ) (y : Parsed) (h : Repr) (n : ℕ) → ofParsed y ≡ frag s (a .at) → y ≡ Parsed.Header h n → Brings r room l s (piece ctx a h n s) → Brings r room l s (fragment ctx a s)
 unfolding fragment
 on-fragment r ctx a s room l y h n p q b = rw (sym p ∙ ap ofParsed q) b
 
 pub no-fragment : (ctx : List ℕ) (a : Arrival) (s room : List ℕ) (y : Parsed) (e : Refusal) → ofParsed y ≡ frag s (a .at) → y ≡ Parsed.Refused e → Brings (Payload.Refused e) room room s (fragment ctx a s)
 unfolding fragment
-no-fragment ctx a s room y e p q = rw (sym p ∙ ap ofParsed q) (record { answer = refl; scratch = refl })
+no-fragment ctx a s room y e p q = rw (sym p ∙ ap ofParsed q) (record { answer = refl; within = tt; scratch = refl })
 
 module _ (ctx : List ℕ) (a : Arrival) (s room l : List ℕ) (y : DispatchAnswer) (p : ofDispatch y ≡ dispatch s (a .at)) (i : 175 ≤ length room) where
   pub kind-fragment : (r : Payload) (k : SixlowpanPacket) → y ≡ DispatchAnswer.Is k → k ≡ FragmentHeader → Brings r room l s (fragment ctx a s) → Brings r room l s (payloadIn room ctx a s)
@@ -156,13 +164,13 @@ module _ (ctx : List ℕ) (a : Arrival) (s room l : List ℕ) (y : DispatchAnswe
 
 pub no-kind : (ctx : List ℕ) (a : Arrival) (s room : List ℕ) (y : DispatchAnswer) (e : Refusal) → ofDispatch y ≡ dispatch s (a .at) → 175 ≤ length room → y ≡ DispatchAnswer.Refused e → Brings (Payload.Refused e) room room s (payloadIn room ctx a s)
 unfolding payloadIn payload
-no-kind ctx a s room y e p i q = rw (le-leb 175 (length room) i, sym p ∙ ap ofDispatch q) (record { answer = refl; scratch = refl })
+no-kind ctx a s room y e p i q = rw (le-leb 175 (length room) i, sym p ∙ ap ofDispatch q) (record { answer = refl; within = tt; scratch = refl })
 
 pub no-room : (ctx : List ℕ) (a : Arrival) (s room : List ℕ) → length room < 175 → Brings (Payload.Refused NoRoom) room room s (payloadIn room ctx a s)
 unfolding payloadIn
-no-room ctx a s room h = rw (lt-leb 175 (length room) h) (record { answer = refl; scratch = refl })
+no-room ctx a s room h = rw (lt-leb 175 (length room) h) (record { answer = refl; within = tt; scratch = refl })
 
-pub ruleset payloads = (on-whole, no-whole, on-first, no-first, later-zero, later-some, on-fragment, no-fragment, kind-fragment, kind-iphc, no-kind, no-room)
+pub ruleset payloads = (on-whole, no-whole, on-first, no-first, later-zero, later-some, header-within, on-fragment, no-fragment, kind-fragment, kind-iphc, no-kind, no-room)
 
 -- ---- for callers
 pub on-arrival : {B : Type 0} {r : Answer B} {y : ArrivalAnswer} {x : Arrival} (m : Answer Arrival) (k : Arrival → Answer B) → ofArrival y ≡ m → y ≡ ArrivalAnswer.Is x → r ≡ k x → r ≡ andThen m k

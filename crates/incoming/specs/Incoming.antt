@@ -1,5 +1,5 @@
 -- What a frame brings, in the scope document's order of checks ("Expansion and the slot table").
-use Prim.Native.Nat.{ℕ}
+use Prim.Native.Nat.{ℕ, _≤_}
 use mathlib.Core.List.{List}
 use mathlib.Core.Bool.{Bool, true, false}
 use mathlib.Core.Path.{_≡_}
@@ -88,7 +88,15 @@ payload ctx a s = andThen (dispatch s (a .at)) (λ k. byKind k ctx a s)
 unfoldable pub payloadIn : List ℕ → List ℕ → Arrival → List ℕ → Answer Brought
 payloadIn room ctx a s = choose (leb 175 (length room)) (payload ctx a s) (refused 7)
 
+-- what the answer points at lies within the scratch l and the frame s; a later part is not at the start
+abbrev pub Within : Payload → List ℕ → List ℕ → Type 0
+Within (Payload.Whole n) l s = n ≤ length l
+Within (Payload.First size tag n e) l s = n ≤ length l
+Within (Payload.Later size tag o from) l s = (from ≤ length s) × (1 ≤ o .0)
+Within (Payload.Refused e) l s = Unit {0}
+
 -- the answer, and the scratch afterwards, are what b says
 pub record Brings (r : Payload) (room l s : List ℕ) (b : Answer Brought) : Type 0 where
   pub answer : ofPayload r l s ≡ b
+  pub within : Within r l s
   pub scratch : l ≡ scratchAfter b room

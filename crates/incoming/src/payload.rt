@@ -58,7 +58,7 @@ fn read_part(
     contexts: &[u8],
     scratch: &mut [u8],
 ) -> Payload
-    requires { ⌜ 175 ≤ length (now scratch) ⌝ }
+    requires { ⌜ (175 ≤ length (now scratch)) × (next ≤ length (now frame)) ⌝ }
     ensures { λ r. ⌜ Brings r (now (scratch .entry)) (now (scratch .exit)) (now (frame .entry)) (piece (now (contexts .entry)) a h next (now (frame .entry))) ⌝ }
 {
     match h {

@@ -75,6 +75,17 @@ first-go m f j k v w s at b n h (refused x) q e = not-refused _ x e
 pub spans-first : {A B : Type 0} (m : Reader A) (f : A → Reader B) (j : ℕ) (k : A → ℕ) → Spans m j → ((a : A) → Spans (f a) (k a)) → (s : List ℕ) (at : ℕ) (b : B) (n : ℕ) → at ≤ length s → _>>=_ m f s at ≡ got b n → First m j k s at n
 spans-first m f j k v w s at b n h e = first-go m f j k v w s at b n h (m s at) refl e
 
+-- ---- a reader that gives a value began within the bytes: so does one that begins with it
+abbrev pub Starts : {A : Type 0} → Reader A → Type 0
+Starts {A} m = (s : List ℕ) (at : ℕ) (a : A) (n : ℕ) → m s at ≡ got a n → at ≤ length s
+
+starts-go : {A B : Type 0} (m : Reader A) (f : A → Reader B) → Starts m → (s : List ℕ) (at : ℕ) (b : B) (n : ℕ) (r : Read A) → m s at ≡ r → andThen r (λ p. f (p .value) s (p .next)) ≡ got b n → at ≤ length s
+starts-go m f v s at b n (is p) q e = v s at (p .value) (p .next) q
+starts-go m f v s at b n (refused x) q e = not-refused _ x e
+
+pub starts-then : {A B : Type 0} (m : Reader A) (f : A → Reader B) → Starts m → Starts (_>>=_ m f)
+starts-then m f v s at b n e = starts-go m f v s at b n (m s at) refl e
+
 -- ---- the fields of numbers
 byte-go : (s : List ℕ) (at a n : ℕ) (t : Bool) → ltb at (length s) ≡ t → choose t (got (getD s at 0) (at + 1)) (refused 1) ≡ got a n → (n ≡ at + 1) × (n ≤ length s)
 byte-go s at a n true q e =
@@ -97,6 +108,14 @@ skip-go s k at n a false q e = not-refused _ 1 e
 pub spans-skip : (k : ℕ) → Spans (skip k) k
 unfolding skip
 spans-skip k s at a n h e = skip-go s k at n a (leb (at + k) (length s)) refl e
+
+pub starts-byte : Starts byte
+unfolding byte
+starts-byte s at a n e = omega (arith, byte-go s at a n (ltb at (length s)) refl e)
+
+pub starts-be16 : Starts be16
+unfolding be16
+starts-be16 = starts-then byte (λ x. _) starts-byte
 
 pub spans-be16 : Spans be16 2
 unfolding be16

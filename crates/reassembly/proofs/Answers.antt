@@ -1,4 +1,4 @@
--- What a part that comes is answered, answer by answer: over any table whose slots are the aged ones.
+-- What a call is answered, answer by answer: over any table whose slots are the aged ones.
 use Prim.Native.Nat.{ℕ, zero, suc, _+_, _*_, _≤_, _<_}
 use native.Mathlib.Nat.{not-suc-le-zero, le-of-suc-le-suc}
 use native.Mathlib.Numerals.{add-one}
@@ -11,12 +11,13 @@ use lib.Seq.{set-getD}
 use lib.Dec.{ltb, leb, eqb}
 use borrow.Author.Tests.{ltb-true, ltb-false, lt-ltb, le-ltb, leb-true}
 use Rattle.octets.specs.Read.{choose}
+use Rattle.octets.specs.Write.{put}
 use Rattle.octets.specs.Refusal.{numberOf}
 use Rattle.octets.specs.declared.refusal.Refusal.{Refusal}
 use Rattle.reassembly.specs.Lists.{count, firstAt, those}
 use Rattle.reassembly.specs.Slots.{present, owner, freeSlot, opened, isFree, isKey, expired, expire1, expire, gatesOf, isGate, free, mayOpen, opening}
-use Rattle.reassembly.specs.Parts.{Part, partOf, Reply, refused, fitsIn, fits, Put, place, offer, Placeable}
-use Rattle.reassembly.specs.Table.{State, Result, part, short, chunk, withSlots, untouched, slotsAt, pass, land, whereKey, whereFree, offerAt, openAt, takePart, step, partCall, Lands, Gives}
+use Rattle.reassembly.specs.Parts.{Part, partOf, Reply, out, refused, fitsIn, fits, Put, place, offer, Placeable}
+use Rattle.reassembly.specs.Table.{Call, State, Result, other, part, short, chunk, withSlots, untouched, slotsAt, pass, land, whereKey, whereFree, offerAt, openAt, takePart, step, lentCall, At, Lands, Gives}
 use Rattle.reassembly.specs.declared.slot.Key.{Key}
 use Rattle.reassembly.specs.declared.slot.Slot.{Slot}
 use Rattle.reassembly.specs.declared.part.Outcome.{Outcome}
@@ -87,6 +88,10 @@ aged-of tb x t i n h e g = record {
   eight = ap length e ∙ length-aged t i (tb .slots) ∙ n;
 }
 
+pub aged-is : (tb x : Table) (t : ℕ) → Aged tb x t → record { slots = x .slots; last = t; gateways = x .gateways } ≡ withSlots tb t (expire t (tb .slots))
+unfolding withSlots
+aged-is tb x t G = rw (G .slots, G .gates)
+
 -- ---- what refusal 10 rules out
 
 or-no : (a b : Bool) → (a || b) ≡ false → (a ≡ false) × (b ≡ false)
@@ -122,20 +127,42 @@ found l k f d n e h = isKey-key k (getD l f d) (rw e at (firstAt-holds (isKey k)
 abbrev state : Table → List ℕ → State
 state tb m = record { table = tb; mem = m }
 
-module _ (tb : Table) (m o : List ℕ) (t : ℕ) (p : Part) where
-  pub gives-7 : (ltb (length m) 16384 || ltb (length o) 2047) ≡ true
-      → Gives (record { answer = Outcome.Refused Refusal.NoRoom; table = tb }) m o o (step (state tb m) (partCall m o t p))
-  unfolding step partCall untouched
+earlier : (tb : Table) (m : List ℕ) (t : ℕ) (c : Call) → At c t → t < tb .last → step (state tb m) c ≡ untouched (state tb m) 8
+unfolding step
+earlier tb m t short e h = absurd e
+earlier tb m t (other u a) e h = rw (e, lt-ltb t (tb .last) h)
+earlier tb m t (part u p) e h = rw (e, lt-ltb t (tb .last) h)
+
+-- whatever comes, 7 and 8 go first
+module _ (tb : Table) (m o : List ℕ) (t : ℕ) (c : Call) where
+  pub gives-7 : (ltb (length m) 16384 || ltb (length o) 2047) ≡ true → Gives (record { answer = Outcome.Refused Refusal.NoRoom; table = tb }) m o o (step (state tb m) (lentCall m o c))
+  unfolding step lentCall untouched
   gives-7 e = rw e record { answer = refl; table = refl; memory = refl; output = refl }
 
-  module _ (enough : (ltb (length m) 16384 || ltb (length o) 2047) ≡ false) where
-    pub gives-8 : t < tb .last → Gives (record { answer = Outcome.Refused Refusal.EarlierTime; table = tb }) m o o (step (state tb m) (partCall m o t p))
-    unfolding step partCall untouched
-    gives-8 h = rw (enough, lt-ltb t (tb .last) h) record { answer = refl; table = refl; memory = refl; output = refl }
+  pub gives-8 : (ltb (length m) 16384 || ltb (length o) 2047) ≡ false → At c t → t < tb .last → Gives (record { answer = Outcome.Refused Refusal.EarlierTime; table = tb }) m o o (step (state tb m) (lentCall m o c))
+  unfolding lentCall untouched
+  gives-8 enough a h = rw (enough, earlier tb m t c a h) record { answer = refl; table = refl; memory = refl; output = refl }
 
+-- a call that brings no part: the time is taken, old slots are freed, and it is answered
+module _ (tb : Table) (m o : List ℕ) (t : ℕ) (enough : (ltb (length m) 16384 || ltb (length o) 2047) ≡ false) (late : tb .last ≤ t) (x : Table) (e : x ≡ withSlots tb t (expire t (tb .slots))) where
+  others : (a : Reply (List ℕ)) → step (state tb m) (lentCall m o (other t a)) ≡ pass (state tb m) t a
+  unfolding step lentCall
+  others a = rw (enough, le-ltb t (tb .last) late)
+
+  pub gives-refusal : (r : Refusal) → Gives (record { answer = Outcome.Refused r; table = x }) m o o (step (state tb m) (lentCall m o (other t (refused (numberOf r)))))
+  unfolding pass slotsAt
+  gives-refusal r = rw (others (refused (numberOf r))) record { answer = refl; table = e; memory = refl; output = refl }
+
+  pub gives-datagram : (d o′ : List ℕ) → o′ ≡ put 0 d o → Gives (record { answer = Outcome.Out (length d); table = x }) m o o′ (step (state tb m) (lentCall m o (other t (out d))))
+  unfolding pass slotsAt
+  gives-datagram d o′ q = rw (others (out d)) record { answer = refl; table = e; memory = refl; output = q }
+
+-- a part
+module _ (tb : Table) (m o : List ℕ) (t : ℕ) (p : Part) where
+  module _ (enough : (ltb (length m) 16384 || ltb (length o) 2047) ≡ false) where
     module _ (late : tb .last ≤ t) (x : Table) (G : Aged tb x t) where
-      timed : step (state tb m) (partCall m o t p) ≡ takePart (state tb m) t p
-      unfolding step partCall
+      timed : step (state tb m) (lentCall m o (part t p)) ≡ takePart (state tb m) t p
+      unfolding step lentCall
       timed = rw (enough, le-ltb t (tb .last) late)
 
       slots-are : slotsAt t (state tb m) ≡ x .slots
@@ -151,12 +178,12 @@ module _ (tb : Table) (m o : List ℕ) (t : ℕ) (p : Part) where
       gates-are = rw (G .gates)
 
       passes : (r : Refusal) → takePart (state tb m) t p ≡ pass (state tb m) t (refused (numberOf r))
-          → Gives (record { answer = Outcome.Refused r; table = record { slots = x .slots; last = t; gateways = x .gateways } }) m o o (step (state tb m) (partCall m o t p))
+          → Gives (record { answer = Outcome.Refused r; table = record { slots = x .slots; last = t; gateways = x .gateways } }) m o o (step (state tb m) (lentCall m o (part t p)))
       unfolding pass
       passes r e = rw (timed, e) record { answer = refl; table = table-is; memory = refl; output = refl }
 
       landed : (i n : ℕ) (q : Put) (d : InSlot) (m′ o′ : List ℕ) → takePart (state tb m) t p ≡ land (state tb m) t i n q → Lands d i m m′ o o′ q
-          → Gives (record { answer = d .outcome; table = record { slots = set (x .slots) i (d .slot); last = t; gateways = x .gateways } }) m′ o o′ (step (state tb m) (partCall m o t p))
+          → Gives (record { answer = d .outcome; table = record { slots = set (x .slots) i (d .slot); last = t; gateways = x .gateways } }) m′ o o′ (step (state tb m) (lentCall m o (part t p)))
       unfolding land withSlots
       landed i n q d m′ o′ e D = rw (timed, e) record {
         answer = D .answer;
@@ -166,13 +193,13 @@ module _ (tb : Table) (m o : List ℕ) (t : ℕ) (p : Part) where
       }
 
       pub gives-9 : isGate (owner (p .key)) (those present (x .gateways)) ≡ false
-          → Gives (record { answer = Outcome.Refused Refusal.NotGateway; table = record { slots = x .slots; last = t; gateways = x .gateways } }) m o o (step (state tb m) (partCall m o t p))
+          → Gives (record { answer = Outcome.Refused Refusal.NotGateway; table = record { slots = x .slots; last = t; gateways = x .gateways } }) m o o (step (state tb m) (lentCall m o (part t p)))
       unfolding takePart
       gives-9 h = passes Refusal.NotGateway (rw (sym gates-are ∙ h))
 
       module _ (known : isGate (owner (p .key)) (those present (x .gateways)) ≡ true) where
         pub gives-10 : fits p ≡ false
-            → Gives (record { answer = Outcome.Refused Refusal.BadPart; table = record { slots = x .slots; last = t; gateways = x .gateways } }) m o o (step (state tb m) (partCall m o t p))
+            → Gives (record { answer = Outcome.Refused Refusal.BadPart; table = record { slots = x .slots; last = t; gateways = x .gateways } }) m o o (step (state tb m) (lentCall m o (part t p)))
         unfolding takePart
         gives-10 h = passes Refusal.BadPart (rw (sym gates-are ∙ known, h))
 
@@ -182,7 +209,7 @@ module _ (tb : Table) (m o : List ℕ) (t : ℕ) (p : Part) where
           where-is = rw slots-are at
 
           pub gives-offer : f < 8 → (d : Slot) (r : InSlot) (m′ o′ : List ℕ) → Lands r f m m′ o o′ (offer (getD (x .slots) f d) (chunk f m) p)
-              → Gives (record { answer = r .outcome; table = record { slots = set (x .slots) f (r .slot); last = t; gateways = x .gateways } }) m′ o o′ (step (state tb m) (partCall m o t p))
+              → Gives (record { answer = r .outcome; table = record { slots = set (x .slots) f (r .slot); last = t; gateways = x .gateways } }) m′ o o′ (step (state tb m) (lentCall m o (part t p)))
           unfolding takePart offerAt
           gives-offer h d r m′ o′ D =
               let s : getD (slotsAt t (state tb m)) f freeSlot ≡ getD (x .slots) f d = rw slots-are (getD-any (x .slots) f freeSlot d (omega (arith, G .eight))) in
@@ -190,7 +217,7 @@ module _ (tb : Table) (m o : List ℕ) (t : ℕ) (p : Part) where
 
           module _ (none : 8 ≤ f) (low : ℕ) (opens : opening (owner (p .key)) (those present (x .gateways)) (x .slots) ≡ low) where
             pub gives-open : low < 8 → (r : InSlot) (m′ o′ : List ℕ) → Lands r low m m′ o o′ (place (opened (p .key) t) (chunk low m) p)
-                → Gives (record { answer = r .outcome; table = record { slots = set (x .slots) low (r .slot); last = t; gateways = x .gateways } }) m′ o o′ (step (state tb m) (partCall m o t p))
+                → Gives (record { answer = r .outcome; table = record { slots = set (x .slots) low (r .slot); last = t; gateways = x .gateways } }) m′ o o′ (step (state tb m) (lentCall m o (part t p)))
             unfolding takePart openAt whereFree opening gatesOf
             gives-open h r m′ o′ D = by-test (mayOpen (owner (p .key)) (those present (x .gateways)) (x .slots))
                 (λ e.
@@ -201,7 +228,7 @@ module _ (tb : Table) (m o : List ℕ) (t : ℕ) (p : Part) where
                 absurd (omega arith))
 
             pub gives-12 : 8 ≤ low
-                → Gives (record { answer = Outcome.Refused Refusal.NoSlot; table = record { slots = x .slots; last = t; gateways = x .gateways } }) m o o (step (state tb m) (partCall m o t p))
+                → Gives (record { answer = Outcome.Refused Refusal.NoSlot; table = record { slots = x .slots; last = t; gateways = x .gateways } }) m o o (step (state tb m) (lentCall m o (part t p)))
             unfolding takePart opening gatesOf free
             gives-12 h = by-test (mayOpen (owner (p .key)) (those present (x .gateways)) (x .slots))
                 (λ e.

@@ -1,8 +1,8 @@
 // Datagrams put together from their parts: the slot table.
 //
 // - `slot`: addresses as two numbers, keys, and a slot's record. `part`: a part offered to one slot and its 2,048 bytes.
-// - `table`: eight slots, the last time and at most four gateways, by value. `Table::new` takes the gateway list, and
-//   `receive_part` a part at a time.
+// - `table`: eight slots, the last time and at most four gateways, by value. `Table::new` takes the gateway list; a call
+//   brings a part (`receive_part`), a whole datagram (`hand_over`) or nothing (`refuse`).
 //
 // The answer, the table, the lent memory and the output are, on every input, those of specs/Table.antt's `step`. proofs/
 // shows of every table that comes from calls that no gateway holds over three slots, that the free slots suffice for the
@@ -19,4 +19,7 @@ pub use table::Fresh;
 pub use table::Listed;
 pub use table::Received;
 pub use table::Table;
+pub use table::hand_over;
+pub use table::is_gateway;
 pub use table::receive_part;
+pub use table::refuse;

@@ -5,12 +5,13 @@ ghost use mathlib.Core.Bool.{not, _&&_, _||_};
 ghost use Prim.Native.Nat.{_+_, _*_, _<_, _≤_};
 ghost use lib.ListN.{length, take, replicate};
 ghost use lib.Dec.{eqb, ltb, leb};
+ghost use Rattle.octets.specs.Refusal.{numberOf};
 ghost use Rattle.octets.specs.declared.refusal.Refusal.{Refusal};
 ghost use Rattle.reassembly.specs.declared.table.Listed.{Listed};
 ghost use Rattle.reassembly.specs.Lists.{count, firstAt, those};
-ghost use Rattle.reassembly.specs.Slots.{sameNode, freeSlot, present, isFree, gatesOf, isGate, held, free, idleOthers, opening};
+ghost use Rattle.reassembly.specs.Slots.{sameNode, expire, freeSlot, present, isFree, gatesOf, isGate, held, free, idleOthers, opening};
 ghost use Rattle.reassembly.specs.Parts.{partOf, place, offer, Placeable};
-ghost use Rattle.reassembly.specs.Table.{chunk, step, partCall, Lands, Gives};
+ghost use Rattle.reassembly.specs.Table.{chunk, withSlots, step, partCall, wholeCall, refusedCall, Lands, Gives};
 ghost use Rattle.reassembly.specs.Fresh.{seats, fresh, nodes, unfit, Begins};
 use super::part::InSlot;
 use super::part::Outcome;
@@ -21,6 +22,7 @@ use super::slot::Key;
 use super::slot::Node;
 use super::slot::Slot;
 use super::slot::is_expired;
+use expand::copy::put_part;
 use ieee802154::Address;
 use octets::refusal::Refusal;
 use sixlowpan::frag::Units;
@@ -65,6 +67,26 @@ impl Table {
         let table = Table::of(seats);
         let answer = Listed::Accepted;
         Fresh { answer, table }
+    }
+
+    // The table as a call at a time leaves it that brings no part: the time is taken, and slots 60,000 ms or more past
+    // their opening are freed.
+    pub fn aged(self, time: u64) -> Table
+        ensures { λ r. ⌜ r ≡ withSlots self time (expire time (self .slots)) ⌝ }
+    {
+        let mut x = self;
+        let mut i: usize = 0;
+        while i < 8 {
+            let live = x.slots[i].live;
+            let since = x.slots[i].since;
+            if is_expired(live, since, time) {
+                let s = Slot::free();
+                x.slots[i] = s;
+            }
+            i = i + 1;
+        }
+        x.last = time;
+        x
     }
 
     fn of(seats: [Node; 4]) -> Table
@@ -160,7 +182,7 @@ fn is_short(mem: usize, out: usize) -> bool
 }
 
 // Whether an address is one of the gateways.
-fn is_gateway(gateways: [Node; 4], a: Node) -> bool
+pub fn is_gateway(gateways: [Node; 4], a: Node) -> bool
     ensures { λ r. ⌜ r ≡ isGate a (those present gateways) ⌝ }
 {
     let mut i: usize = 0;
@@ -308,8 +330,43 @@ fn place_at(
     place_part(s, &mut mem[start..end], offset, elided, part, out)
 }
 
+// A call whose frame is refused.
+pub fn refuse(table: Table, time: u64, e: Refusal, mem: &[u8], out: &[u8]) -> Received
+    ensures { λ r. ⌜ Gives r (now (mem .entry)) (now (out .entry)) (now (out .entry)) (step (record { table = table; mem = now (mem .entry) }) (refusedCall (now (mem .entry)) (now (out .entry)) time (numberOf e))) ⌝ }
+{
+    if is_short(mem.len(), out.len()) {
+        let answer = Outcome::Refused(Refusal::NoRoom);
+        return Received { answer, table };
+    }
+    if time < table.last {
+        let answer = Outcome::Refused(Refusal::EarlierTime);
+        return Received { answer, table };
+    }
+    let x = table.aged(time);
+    let answer = Outcome::Refused(e);
+    Received { answer, table: x }
+}
+
+// A call whose frame brings a whole datagram: it goes to the output's start.
+pub fn hand_over(table: Table, time: u64, datagram: &[u8], mem: &[u8], out: &mut [u8]) -> Received
+    ensures { λ r. ⌜ Gives r (now (mem .entry)) (now (out .entry)) (now (out .exit)) (step (record { table = table; mem = now (mem .entry) }) (wholeCall (now (mem .entry)) (now (out .entry)) time (now (datagram .entry)))) ⌝ }
+{
+    if is_short(mem.len(), out.len()) {
+        let answer = Outcome::Refused(Refusal::NoRoom);
+        return Received { answer, table };
+    }
+    if time < table.last {
+        let answer = Outcome::Refused(Refusal::EarlierTime);
+        return Received { answer, table };
+    }
+    put_part(out, 0, datagram, 0, datagram.len());
+    let x = table.aged(time);
+    let answer = Outcome::Out(datagram.len());
+    Received { answer, table: x }
+}
+
 // A part that comes at a time: the checks of the scope document in its order, then the slot of its key, or one that is
-// opened. The one function that writes the table.
+// opened.
 pub fn receive_part(
     table: Table,
     time: u64,

@@ -10,7 +10,7 @@ enum-known-h : tie.Need-enum-known-h
 enum-known-h c = search needs
 
 read-part-requires : tie.Need-read-part-requires
-read-part-requires c κs = search needs
+read-part-requires c κs = (search needs, search payloads)
 
 enum-known-e : tie.Need-enum-known-e
 enum-known-e c = search needs

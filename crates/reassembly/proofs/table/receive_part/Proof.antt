@@ -7,6 +7,7 @@ use borrow.Author.Tests.{not-true, not-false}
 use Rattle.reassembly.specs.Lists.{firstAt}
 use Rattle.reassembly.specs.Slots.{isKey, expired, gatesOf, opened}
 use Rattle.reassembly.specs.Parts.{partOf}
+use Rattle.reassembly.specs.Table as Table
 use Rattle.reassembly.proofs.Lists.{unmapped, first-hit, first-miss, first-end}
 use Rattle.reassembly.proofs.Parts.{offer-key, place-key}
 use Rattle.reassembly.proofs.Answers.{found, agedTo, aged-none, length-aged, aged-turn, aged-stay, aged-of, ready, enough-memory, gives-7, gives-8, gives-9, gives-10, gives-offer, gives-open, gives-12}
@@ -32,12 +33,12 @@ is-short-requires c κs = search needs
 returns : tie.Need-returns Inv-loop μ-loop Inv-loop2 μ-loop2
 returns c =
     let a = c .before .before .before .before .before .args in
-    gives-7 (a .table) (a .mem .now) (a .out .now) (a .time) (partOf (a .key) (a .offset .0) (a .elided) (a .part .now)) (sym (c .before .is-short .ensures) ∙ c .if1 .taken)
+    gives-7 (a .table) (a .mem .now) (a .out .now) (a .time) (Table.part (a .time) (partOf (a .key) (a .offset .0) (a .elided) (a .part .now))) (sym (c .before .is-short .ensures) ∙ c .if1 .taken)
 
 returns-2 : tie.Need-returns-2 Inv-loop μ-loop Inv-loop2 μ-loop2
 returns-2 c =
     let a = c .before .before .before .before .before .before .args in
-    gives-8 (a .table) (a .mem .now) (a .out .now) (a .time) (partOf (a .key) (a .offset .0) (a .elided) (a .part .now)) (sym (c .before .before .is-short .ensures) ∙ c .before .if1 .left) (c .if2 .taken)
+    gives-8 (a .table) (a .mem .now) (a .out .now) (a .time) (Table.part (a .time) (partOf (a .key) (a .offset .0) (a .elided) (a .part .now))) (sym (c .before .before .is-short .ensures) ∙ c .before .if1 .left) refl (c .if2 .taken)
 
 loop-holds : tie.Need-loop-holds Inv-loop μ-loop Inv-loop2 μ-loop2
 loop-holds c = (search needs, aged-none _ _, refl)

@@ -1,0 +1,44 @@
+-- Any two answers that meet a contract are equal.
+use Prim.Native.Nat.{ℕ, _-_, _≤_}
+use native.Mathlib.Omega.{arith}
+use mathlib.Core.List.{List}
+use mathlib.Core.Bool.{Bool, true, false}
+use mathlib.Core.Path.{_≡_, refl, sym, ap, _∙_}
+use lib.ListN.{length, take, drop, length-take, length-drop}
+use lib.Dec.{eqb}
+use borrow.Author.Tests.{ne-eqb}
+use Rattle.octets.specs.Read.{Answer, is, refused, choose}
+use Rattle.octets.proofs.Unique.{Injective, refusalOf, refusal-back, back, one}
+use Rattle.incoming.specs.Incoming.{ofArrival, Brought, datagram, part, scratchAfter, Within, Brings}
+use Rattle.incoming.specs.declared.arrival.ArrivalAnswer.{ArrivalAnswer}
+use Rattle.incoming.specs.declared.payload.Payload.{Payload}
+
+pub arrival-one : Injective ofArrival
+arrival-one = one ofArrival ArrivalAnswer.Is ArrivalAnswer.Refused inv
+  where
+    inv : (y : ArrivalAnswer) → back ArrivalAnswer.Is ArrivalAnswer.Refused (ofArrival y) ≡ y
+    inv (ArrivalAnswer.Is a) = refl
+    inv (ArrivalAnswer.Refused e) = ap ArrivalAnswer.Refused (refusal-back e)
+
+-- the way back from what the frame s brings
+abbrev answerTo : List ℕ → Answer Brought → Payload
+answerTo s (is (datagram d)) = Payload.Whole (length d)
+answerTo s (is (part size tag u bs e)) = choose (eqb u 0) (Payload.First size tag (length bs) e) (Payload.Later size tag (record { 0 = u }) (length s - length bs))
+answerTo s (refused n) = Payload.Refused (refusalOf n)
+
+taken : (n : ℕ) (l : List ℕ) → n ≤ length l → length (take n l) ≡ n
+taken n l h = omega (arith, length-take n l)
+
+dropped : (n : ℕ) (s : List ℕ) → n ≤ length s → length s - length (drop n s) ≡ n
+dropped n s h = omega (arith, length-drop n s)
+
+answer-is : (r : Payload) (room l s : List ℕ) (b : Answer Brought) → Brings r room l s b → answerTo s b ≡ r
+answer-is (Payload.Whole n) room l s b B = rw (sym (B .answer)) (ap Payload.Whole (taken n l (B .within)))
+answer-is (Payload.First size tag n e) room l s b B = rw (sym (B .answer)) (ap (λ k. Payload.First size tag k e) (taken n l (B .within)))
+answer-is (Payload.Later size tag o from) room l s b B =
+    let z : eqb (o .0) 0 ≡ false = ne-eqb (o .0) 0 (λ h. omega (arith, h, B .within .1)) in
+    rw (sym (B .answer), z) (ap (λ k. Payload.Later size tag o k) (dropped from s (B .within .0)))
+answer-is (Payload.Refused e) room l s b B = rw (sym (B .answer)) (ap Payload.Refused (refusal-back e))
+
+pub payload-one : (room s : List ℕ) (b : Answer Brought) (y z : Payload) (l m : List ℕ) → Brings y room l s b → Brings z room m s b → (y ≡ z) × (l ≡ m)
+payload-one room s b y z l m A B = (sym (answer-is y room l s b A) ∙ answer-is z room m s b B, A .scratch ∙ sym (B .scratch))

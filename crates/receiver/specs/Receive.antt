@@ -1,0 +1,44 @@
+-- A frame that comes to the slot table: the checks of the scope document in its order ("Expansion and the slot table"), and what it is
+-- that then comes.
+use Prim.Native.Nat.{ℕ}
+use mathlib.Core.List.{List}
+use Rattle.octets.specs.Read.{Answer, is, refused, andThen, choose}
+use Rattle.incoming.specs.Incoming.{arrival, Brought, datagram, part, payload}
+use Rattle.incoming.specs.declared.arrival.Arrival.{Arrival}
+use Rattle.reassembly.specs.Slots.{nodeOf, present, isGate}
+use Rattle.reassembly.specs.Parts as Parts
+use Rattle.reassembly.specs.Parts.{partOf}
+use Rattle.reassembly.specs.Table as Table
+use Rattle.reassembly.specs.Table.{Call, other, lentCall}
+use Rattle.reassembly.specs.declared.slot.Node.{Node}
+use Rattle.reassembly.specs.declared.slot.Key.{Key}
+
+-- the key is source, destination, size, tag
+unfoldable pub keyOf : Arrival → ℕ → ℕ → Key
+keyOf a size tag = record { src = nodeOf (a .src); dst = nodeOf (a .dst); size = size; tag = tag }
+
+-- 9: the source is not one of the gateways gs; 6: the destination is absent
+unfoldable pub welcome : List Node → Arrival → Answer Arrival
+welcome gs a = choose (isGate (nodeOf (a .src)) gs) (choose (present (nodeOf (a .dst))) (is a) (refused 6)) (refused 9)
+
+-- who sends the frame to whom: the MAC header's refusals and 13, then 9 and 6
+unfoldable pub admitted : List Node → List ℕ → Answer Arrival
+admitted gs s = andThen (arrival s) (λ a. welcome gs a)
+
+-- what its payload is to the table, at the time t: a datagram to hand out, a part under its key, or a refusal
+abbrev pub brings : ℕ → Arrival → Answer Brought → Call
+brings t a (is (datagram d)) = other t (Parts.out d)
+brings t a (is (part size tag u bs e)) = Table.part t (partOf (keyOf a size tag) u e bs)
+brings t a (refused n) = other t (Parts.refused n)
+
+abbrev pub carries : ℕ → List ℕ → List ℕ → Answer Arrival → Call
+carries t ctx s (is a) = brings t a (payload ctx a s)
+carries t ctx s (refused n) = other t (Parts.refused n)
+
+-- the frame s at the time t, to a table of the gateways gs
+unfoldable pub frameCall : List Node → List ℕ → ℕ → List ℕ → Call
+frameCall gs ctx t s = carries t ctx s (admitted gs s)
+
+-- with the lent memory m and the output o
+unfoldable pub callOf : List ℕ → List ℕ → List Node → List ℕ → ℕ → List ℕ → Call
+callOf m o gs ctx t s = lentCall m o (frameCall gs ctx t s)
