@@ -1,2 +1,3 @@
 pub mod Cuttings
 pub mod Runs
+pub mod Frames

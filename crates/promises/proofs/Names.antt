@@ -1,0 +1,136 @@
+-- What a call of `receive` brings: its own time, and where it brings a part, one under the key that the frame's headers name, from a gateway.
+use Prim.Native.Nat.{ℕ, _≤_}
+use native.Mathlib.Omega.{arith}
+use mathlib.Core.Path.{_≡_, refl, sym, ap, ap₂, _∙_}
+use mathlib.Core.Logic.{_⊎_, inl, inr}
+use mathlib.Core.Bool.{Bool, true, false, _||_}
+use mathlib.Core.List.{List}
+use lib.ListN.{length}
+use lib.Dec.{ltb}
+use borrow.Author.Tests.{ltb-false}
+use Rattle.octets.specs.Read.{Answer, is, refused, andThen, choose}
+use Rattle.sixlowpan.specs.Frag.{frag, sizeOf, tagOf}
+use Rattle.incoming.specs.Incoming.{arrival, Brought, datagram, payload}
+use Rattle.incoming.specs.Incoming as Incoming
+use Rattle.incoming.specs.declared.arrival.Arrival.{Arrival}
+use Rattle.incoming.proofs.Names.{Headed, part-header}
+use Rattle.reassembly.specs.Slots.{nodeOf, present, owner, isGate}
+use Rattle.reassembly.specs.Parts.{Part, partOf, Reply}
+use Rattle.reassembly.specs.Table.{Call, short, other, part, lentCall}
+use Rattle.reassembly.specs.declared.slot.Node.{Node}
+use Rattle.reassembly.specs.declared.slot.Key.{Key}
+use Rattle.reassembly.proofs.Tests.{by-test}
+use Rattle.reassembly.proofs.Runs.{after}
+use Rattle.receiver.specs.Receive.{keyOf, welcome, admitted, brings, carries, frameCall, callOf}
+use Rattle.promises.specs.Frames.{named}
+
+-- ---- calls of different kinds
+
+abbrev kindOf : Call → ℕ
+kindOf short = 0
+kindOf (other t a) = 1
+kindOf (part t p) = 2
+
+not-other : {X : Type 0} (t u : ℕ) (a : Reply (List ℕ)) (p : Part) → other t a ≡ part u p → X
+not-other t u a p e = let z : _≡_ {A = ℕ} 1 2 = ap kindOf e in absurd (omega arith)
+
+not-short : {X : Type 0} (u : ℕ) (p : Part) → short ≡ part u p → X
+not-short u p e = let z : _≡_ {A = ℕ} 0 2 = ap kindOf e in absurd (omega arith)
+
+-- a part that a call brings, and its time
+abbrev timeIn : Call → ℕ
+timeIn short = 0
+timeIn (other t a) = t
+timeIn (part t p) = t
+
+abbrev keyIn : Key → Call → Key
+keyIn k short = k
+keyIn k (other t a) = k
+keyIn k (part t p) = p .key
+
+-- ---- a frame that brings a part
+
+-- the part p, at the time t, from the frame s
+pub record Comes (gs : List Node) (t : ℕ) (s : List ℕ) (u : ℕ) (p : Part) : Type 0 where
+  pub time : u ≡ t
+  pub name : named s ≡ is (p .key)
+  pub gate : isGate (owner (p .key)) gs ≡ true
+
+named-is : (s : List ℕ) (a : Arrival) (size tag : ℕ) → arrival s ≡ is a → Headed s (a .at) size tag → named s ≡ is (keyOf a size tag)
+unfolding named
+named-is s a size tag e H = rw (e, H .header) (ap₂ (λ (x y : ℕ). is (keyOf a x y)) (H .size-is) (H .tag-is))
+
+key-gate : (gs : List Node) (a : Arrival) (size tag : ℕ) → isGate (nodeOf (a .src)) gs ≡ true → isGate (owner (keyOf a size tag)) gs ≡ true
+unfolding keyOf
+key-gate gs a size tag g = g
+
+module _ (gs : List Node) (ctx : List ℕ) (t : ℕ) (s : List ℕ) (u : ℕ) (p : Part) where
+  brings-part : (a : Arrival) → arrival s ≡ is a → isGate (nodeOf (a .src)) gs ≡ true → brings t a (payload ctx a s) ≡ part u p → Comes gs t s u p
+  brings-part a q g e = go (payload ctx a s) refl e
+    where
+      go : (r : Answer Brought) → payload ctx a s ≡ r → brings t a r ≡ part u p → Comes gs t s u p
+      go (is (datagram d)) f e = not-other t u _ p e
+      go (is (Incoming.part size tag v bs el)) f e =
+          let k : keyOf a size tag ≡ p .key = ap (keyIn (keyOf a size tag)) e in
+          record {
+            time = sym (ap timeIn e);
+            name = named-is s a size tag q (part-header ctx a s size tag v bs el f) ∙ ap is k;
+            gate = rw (← k) (key-gate gs a size tag g);
+          }
+      go (refused n) f e = not-other t u _ p e
+
+  pub frame-part : frameCall gs ctx t s ≡ part u p → Comes gs t s u p
+  unfolding frameCall admitted welcome
+  frame-part e = go (arrival s) refl e
+    where
+      go : (r : Answer Arrival) → arrival s ≡ r → carries t ctx s (andThen r (λ a. welcome gs a)) ≡ part u p → Comes gs t s u p
+      go (is a) q e = by-test (isGate (nodeOf (a .src)) gs)
+          (λ g. by-test (present (nodeOf (a .dst)))
+          (λ y. brings-part a q g (rw (g, y) at e))
+          (λ y. not-other t u _ p (rw (g, y) at e)))
+          (λ g. not-other t u _ p (rw g at e))
+      go (refused n) q e = not-other t u _ p e
+
+-- ---- its time
+
+carries-after : (n t : ℕ) (ctx s : List ℕ) (r : Answer Arrival) → after n (carries t ctx s r) ≡ t
+carries-after n t ctx s (is a) = go (payload ctx a s)
+  where
+    go : (r : Answer Brought) → after n (brings t a r) ≡ t
+    go (is (datagram d)) = refl
+    go (is (Incoming.part size tag v bs el)) = refl
+    go (refused r) = refl
+carries-after n t ctx s (refused r) = refl
+
+frame-after : (n : ℕ) (gs : List Node) (ctx : List ℕ) (t : ℕ) (s : List ℕ) → after n (frameCall gs ctx t s) ≡ t
+unfolding frameCall
+frame-after n gs ctx t s = carries-after n t ctx s (admitted gs s)
+
+-- ---- with the lent memory m and the output o
+
+module _ (m o : List ℕ) (gs : List Node) (ctx : List ℕ) (t : ℕ) (s : List ℕ) where
+  -- a call that is refused 7 takes no time; every other takes its own
+  pub call-after : (n : ℕ) → (after n (callOf m o gs ctx t s) ≡ n) ⊎ (after n (callOf m o gs ctx t s) ≡ t)
+  unfolding callOf lentCall
+  call-after n = by-test (ltb (length m) 16384 || ltb (length o) 2047) (λ e. inl (rw e)) (λ e. inr (rw e (frame-after n gs ctx t s)))
+
+  pub call-part : (u : ℕ) (p : Part) → callOf m o gs ctx t s ≡ part u p → Comes gs t s u p
+  unfolding callOf lentCall
+  call-part u p e = by-test (ltb (length m) 16384 || ltb (length o) 2047)
+      (λ x. not-short u p (rw x at e))
+      (λ x. frame-part gs ctx t s u p (rw x at e))
+
+  -- a call that brings a part has room for every datagram
+  pub call-room : (u : ℕ) (p : Part) → callOf m o gs ctx t s ≡ part u p → 2047 ≤ length o
+  unfolding callOf lentCall
+  call-room u p e = go (ltb (length m) 16384) (ltb (length o) 2047) refl e
+    where
+      go : (x y : Bool) → ltb (length o) 2047 ≡ y → choose (x || y) short (frameCall gs ctx t s) ≡ part u p → 2047 ≤ length o
+      go true y q e = not-short u p e
+      go false true q e = not-short u p e
+      go false false q e = ltb-false (length o) 2047 q
+
+  -- only the length of the memory matters
+  pub call-memory : (m′ : List ℕ) → length m′ ≡ length m → callOf m′ o gs ctx t s ≡ callOf m o gs ctx t s
+  unfolding callOf lentCall
+  call-memory m′ e = rw e
