@@ -18,14 +18,13 @@ use Rattle.reassembly.specs.declared.part.Outcome.{Outcome}
 use Rattle.reassembly.proofs.Parts.{length-finish}
 use Rattle.reassembly.proofs.Runs.{Good, step-did, did-good, did-gates, did-length, Gateways, begun, gates-fresh, fresh-good, run-good, run-gates, run-length, after, Ready, comes-one, comes-brought, comes-part}
 use Rattle.reassembly.proofs.Promises.{three, tally, outcome-one}
-use Rattle.receiver.specs.Receive.{callOf}
 use Rattle.promises.specs.Cuttings.{In, Has, Covers, Cutting}
 use Rattle.promises.specs.Runs.{came, AllKept, MadeOf}
 use Rattle.promises.specs.Runs as Calls
-use Rattle.promises.specs.Frames.{Turn, left, callIn, Ran, endOf, openings, endings, Forward, named, meant, Brings, partsOf, takenOf, Supposed, Concluded, HandedOut}
+use Rattle.promises.specs.Frames.{Turn, left, callIn, Ran, endOf, openings, endings, Forward, meant, Brings, partsOf, takenOf, Supposed, Concluded, HandedOut}
 use Rattle.promises.proofs.Fits.{fit}
 use Rattle.promises.proofs.Engine.{covers-by, In-left, In-right, In-cases}
-use Rattle.promises.proofs.Names.{call-after, call-part, call-room, call-memory}
+use Rattle.receiver.proofs.Names.{call-after, call-part, call-room, call-memory}
 use Rattle.promises.proofs.Theorem as Theorem
 
 -- ---- a run of `receive` is a run of calls

@@ -6,7 +6,6 @@ pub mod Engine
 pub mod Instance
 pub mod Origin
 pub mod Theorem
-pub mod Names
 pub mod Frames
 pub mod TwoParts
 pub mod Worked

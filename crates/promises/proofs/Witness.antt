@@ -22,14 +22,15 @@ use Rattle.reassembly.specs.Fresh.{seats, fresh, nodes, unfit, refusedList}
 use Rattle.reassembly.specs.declared.slot.Key.{Key}
 use Rattle.reassembly.specs.declared.part.Outcome.{Outcome}
 use Rattle.reassembly.proofs.Fresh.{accepted}
-use Rattle.reassembly.proofs.Runs.{Gateways, begun}
+use Rattle.reassembly.proofs.Runs.{Gateways, begun, comes-part}
 use Rattle.receiver.specs.Receive.{frameCall, callOf}
+use Rattle.receiver.specs.Names.{named}
 use Rattle.promises.specs.Cuttings.{In, Covers, zeroed, Cutting}
 use Rattle.promises.specs.Runs.{came, AllKept}
 use Rattle.promises.specs.Runs as Calls
-use Rattle.promises.specs.Frames.{Turn, left, callIn, Ran, endOf, Forward, named, meant, Brings, partsOf, Supposed, Concluded}
+use Rattle.promises.specs.Frames.{Turn, left, callIn, Ran, endOf, Forward, meant, Brings, partsOf, Supposed, Concluded}
 use Rattle.promises.proofs.TwoParts.{low, high, halves, low-in, high-in, halves-cover, low-missing, high-missing}
-use Rattle.promises.proofs.Names.{frame-part}
+use Rattle.receiver.proofs.Names.{frame-part}
 use Rattle.promises.proofs.Frames.{Fixed, fixed-begun, fixed-next, call-is, ran-left, as-calls, demand-3}
 use Rattle.promises.proofs.Worked.{gateways, key, last-month, this-month, resent, first-frame, elided-frame, later-frame, first-brings, later-brings}
 
@@ -248,3 +249,110 @@ module _ (m : List ℕ) (enough : 16384 ≤ length m) (o : List ℕ) (room : 204
         (ran-left gateways m (h₁ ∷ h₂ ∷ h₃ ∷ []) (h₄ ∷ []) (begun gateways m) both-ran) (all-answered .5),
     demand-3 gateways m (key 2) this-month new-cutting (h₁ ∷ []) (h₂ ∷ h₃ ∷ []) h₄ new-supposed both-ran (all-answered .4),
   )
+
+  -- ---- an elided checksum, a part that comes twice, and the last one 59,999 ms after the first: 0001 sends this month's block
+  abbrev resent-low : Part
+  resent-low = low (key 1) resent 7 true
+
+  abbrev resent-high : Part
+  resent-high = high (key 1) resent 7 true
+
+  abbrev τ₁ : State
+  τ₁ = next (begun gateways m) (part 0 resent-low)
+
+  abbrev τ₂ : State
+  τ₂ = next τ₁ (part 10 resent-low)
+
+  abbrev e₁ : Turn
+  e₁ = turn (begun gateways m) o 0 elided-frame resent-low
+
+  abbrev e₂ : Turn
+  e₂ = turn τ₁ o 10 elided-frame resent-low
+
+  abbrev e₃ : Turn
+  e₃ = turn τ₂ o 59999 (later-frame 0x01 0x31) resent-high
+
+  elided₁ : meant gateways m e₁ ≡ part 0 resent-low
+  elided₁ = meant-so 0 elided-frame resent-low (first-brings 0 .2)
+
+  elided₂ : meant gateways m e₂ ≡ part 10 resent-low
+  elided₂ = meant-so 10 elided-frame resent-low (first-brings 10 .2)
+
+  elided₃ : meant gateways m e₃ ≡ part 59999 resent-high
+  elided₃ = meant-so 59999 (later-frame 0x01 0x31) resent-high (later-brings 59999 .2)
+
+  resent-fits : (fits resent-low ≡ true) × (fits resent-high ≡ true)
+  unfolding fitsIn zeroed
+  resent-fits = (refl, refl)
+
+  -- the checksum 43c7 is the computed one
+  resent-summed : finish true (zeroed true resent) ≡ resent
+  unfolding finish zeroed put be16Bytes be32Bytes words onesSum pseudo covered udpChecksum summed
+  resent-summed = refl
+
+  pub resent-cutting : Cutting (key 1) resent
+  resent-cutting = halves (key 1) resent 7 true refl (lit< tt) (lit≤ tt) (resent-fits .0) (resent-fits .1) resent-summed
+
+  resent-came :
+      (partsOf gateways m (key 1) (e₁ ∷ e₂ ∷ []) ≡ resent-low ∷ resent-low ∷ [])
+      × (partsOf gateways m (key 1) (e₁ ∷ e₂ ∷ e₃ ∷ []) ≡ resent-low ∷ resent-low ∷ resent-high ∷ [])
+  unfolding partsOf came comes sameKey sameNode fitsIn zeroed
+  resent-came = (rw (elided₁, elided₂), rw (elided₁, elided₂, elided₃))
+
+  of-resent : (h : Turn) → In h (e₁ ∷ e₂ ∷ e₃ ∷ []) → named (h .frame) ≡ is (key 1) → (p : Part) × In p (resent-cutting .parts) × Brings gateways m h p
+  unfolding resent-cutting
+  of-resent h (inl z) n = rw z (resent-low, low-in (key 1) resent 7 true refl (lit< tt) (lit≤ tt) (resent-fits .0) (resent-fits .1) resent-summed, elided₁)
+  of-resent h (inr (inl z)) n = rw z (resent-low, low-in (key 1) resent 7 true refl (lit< tt) (lit≤ tt) (resent-fits .0) (resent-fits .1) resent-summed, elided₂)
+  of-resent h (inr (inr (inl z))) n = rw z (resent-high, high-in (key 1) resent 7 true refl (lit< tt) (lit≤ tt) (resent-fits .0) (resent-fits .1) resent-summed, elided₃)
+  of-resent h (inr (inr (inr z))) n = absurd z
+
+  pub resent-supposed : Supposed gateways m (key 1) resent resent-cutting [] (e₁ ∷ e₂ ∷ []) e₃
+  unfolding Forward
+  resent-supposed = record {
+    gateways = listed;
+    enough = enough;
+    forward = (lit≤ tt, (lit≤ tt, (lit≤ tt, tt)));
+    first = e₁;
+    then = e₂ ∷ e₃ ∷ [];
+    earliest = refl;
+    earliest-named = name-of 0 elided-frame resent-low (first-brings 0 .2);
+    of-cutting = of-resent;
+    cover = rw (resent-came .1) (halves-cover (key 1) resent 7 true refl (lit< tt) (lit≤ tt) (resent-low ∷ resent-low ∷ resent-high ∷ []) (inl refl) (inr (inr (inl refl))));
+    not-before = λ c. high-missing (key 1) resent 7 true refl (lit< tt) (lit≤ tt) (resent-low ∷ resent-low ∷ []) twice (rw (resent-came .0) at c);
+    soon = lit< tt;
+  }
+    where
+      twice : (p : Part) → In p (resent-low ∷ resent-low ∷ []) → p ≡ resent-low
+      twice p (inl z) = z
+      twice p (inr z) = only p resent-low z
+
+  resent-replies :
+      ((step (begun gateways m) (part 0 resent-low)) .reply ≡ kept)
+      × ((step τ₁ (part 10 resent-low)) .reply ≡ kept)
+      × ((step τ₂ (part 59999 resent-high)) .reply ≡ out resent)
+  unfolding run AllKept
+  resent-replies =
+      let w = as-calls gateways m (key 1) resent resent-cutting [] (e₁ ∷ e₂ ∷ []) e₃ resent-supposed (all-answered .5) in
+      let c₁ : comes (key 1) (meant gateways m e₁) ≡ resent-low ∷ [] = rw elided₁ (comes-part (key 1) 0 resent-low refl (resent-fits .0)) in
+      let c₂ : comes (key 1) (meant gateways m e₂) ≡ resent-low ∷ [] = rw elided₂ (comes-part (key 1) 10 resent-low refl (resent-fits .0)) in
+      let p : part 59999 (w .0) ≡ part 59999 resent-high = sym (w .1) ∙ elided₃ in
+      let k₁ : (step (begun gateways m) (meant gateways m e₁)) .reply ≡ kept = w .2 .none-before .0 resent-low c₁ in
+      let k₂ : (step (next (begun gateways m) (meant gateways m e₁)) (meant gateways m e₂)) .reply ≡ kept = w .2 .none-before .1 .0 resent-low c₂ in
+      let k₃ : (step (next (next (begun gateways m) (meant gateways m e₁)) (meant gateways m e₂)) (part 59999 (w .0))) .reply ≡ out resent = w .2 .exactly in
+      (rw elided₁ at k₁, rw (elided₁, elided₂) at k₂, rw (elided₁, elided₂, p) at k₃)
+
+  pub resent-ran : Ran (begun gateways m) (e₁ ∷ e₂ ∷ e₃ ∷ [])
+  unfolding Ran next
+  resent-ran =
+      let f₁ = fixed-next gateways m (begun gateways m) (part 0 resent-low) fixed₀ in
+      let f₂ = fixed-next gateways m τ₁ (part 10 resent-low) f₁ in (
+        meets (begun gateways m) 0 elided-frame resent-low fixed₀ (first-brings 0 .2) (ap answered (resent-replies .0)),
+        (
+          meets τ₁ 10 elided-frame resent-low f₁ (first-brings 10 .2) (ap answered (resent-replies .1)),
+          (meets τ₂ 59999 (later-frame 0x01 0x31) resent-high f₂ (later-brings 59999 .2) (ap answered (resent-replies .2)), tt),
+        ),
+      )
+
+  pub resent-block : Concluded (key 1) resent (e₁ ∷ e₂ ∷ []) e₃
+  unfolding endOf
+  resent-block = demand-3 gateways m (key 1) resent resent-cutting [] (e₁ ∷ e₂ ∷ []) e₃ resent-supposed resent-ran (all-answered .5)

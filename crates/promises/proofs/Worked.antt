@@ -27,7 +27,6 @@ use Rattle.reassembly.specs.declared.slot.Node.{Node}
 use Rattle.reassembly.specs.declared.slot.Key.{Key}
 use Rattle.receiver.specs.Receive.{keyOf, welcome, admitted, frameCall}
 use Rattle.promises.specs.Cuttings.{zeroed}
-use Rattle.promises.specs.Frames.{named}
 use Rattle.promises.proofs.TwoParts.{low, high}
 
 abbrev pub short : ℕ → Node

@@ -4,9 +4,7 @@ use Prim.Native.Nat.{ℕ, _+_, _≤_, _<_}
 use mathlib.Core.Path.{_≡_}
 use mathlib.Core.List.{List, [], _∷_, _++_, map}
 use lib.ListN.{length, drop}
-use Rattle.octets.specs.Read.{Answer, is, andThen}
-use Rattle.sixlowpan.specs.Frag.{frag, sizeOf, tagOf}
-use Rattle.incoming.specs.Incoming.{arrival}
+use Rattle.octets.specs.Read.{is}
 use Rattle.reassembly.specs.Slots.{gatesOf}
 use Rattle.reassembly.specs.Parts.{Part}
 use Rattle.reassembly.specs.Table.{Call, part, State, step, Gives, takenSince}
@@ -15,7 +13,8 @@ use Rattle.reassembly.specs.declared.slot.Key.{Key}
 use Rattle.reassembly.specs.declared.part.Outcome.{Outcome}
 use Rattle.reassembly.specs.declared.table.Received.{Received}
 use Rattle.reassembly.proofs.Runs.{Gateways, begun}
-use Rattle.receiver.specs.Receive.{keyOf, callOf}
+use Rattle.receiver.specs.Receive.{callOf}
+use Rattle.receiver.specs.Names.{named}
 use Rattle.promises.specs.Cuttings.{In, Covers, Cutting}
 use Rattle.promises.specs.Runs.{came, MadeOf}
 
@@ -65,10 +64,6 @@ Forward n [] = Unit {0}
 Forward n (h ∷ hs) = (n ≤ h .time) × Forward (h .time) hs
 
 -- ---- what comes under a key
-
--- The key that a frame's MAC header and fragment header name: source and destination, size and tag. Other frames name none.
-unfoldable pub named : List ℕ → Answer Key
-named s = andThen (arrival s) (λ a. andThen (frag s (a .at)) (λ p. is (keyOf a (sizeOf (p .value)) (tagOf (p .value)))))
 
 module _ (gs : List Node) (m : List ℕ) where
   -- what comes in a call, to a table of the gateways gs and a memory as long as m

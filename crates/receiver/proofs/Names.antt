@@ -21,8 +21,8 @@ use Rattle.reassembly.specs.declared.slot.Node.{Node}
 use Rattle.reassembly.specs.declared.slot.Key.{Key}
 use Rattle.reassembly.proofs.Tests.{by-test}
 use Rattle.reassembly.proofs.Runs.{after}
 use Rattle.receiver.specs.Receive.{keyOf, welcome, admitted, brings, carries, frameCall, callOf}
-use Rattle.promises.specs.Frames.{named}
+use Rattle.receiver.specs.Names.{named}
 
 -- ---- calls of different kinds
 
