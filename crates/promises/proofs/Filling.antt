@@ -1,20 +1,20 @@
 -- How the parts of one cutting fill one slot: each is kept while they do not cover the datagram, and the one that covers it hands the
 -- datagram out. A repeat changes nothing.
-use Prim.Native.Nat.{ℕ, _+_, _*_, _≤_, _<_}
+use Prim.Native.Nat.{ℕ, _*_, _≤_, _<_}
 use native.Mathlib.Omega.{arith}
 use mathlib.Core.Path.{_≡_, refl, sym, ap, _∙_}
 use mathlib.Core.Logic.{inl, inr}
 use mathlib.Core.Bool.{Bool, true, false}
 use mathlib.Core.List.{List, [], _∷_}
-use lib.ListN.{length, getD, set, take, length-set}
+use lib.ListN.{length, set, take, length-set}
 use lib.Seq.{ext-getD, getD-take, length-take-le}
 use Rattle.reassembly.specs.Slots.{busy, opened}
-use Rattle.reassembly.specs.Parts.{Part, Reply, kept, out, repeats, touches, takenIn, taken, written, full, finish, Put, place, offer}
+use Rattle.reassembly.specs.Parts.{Part, kept, out, repeats, touches, takenIn, taken, written, full, finish, place, offer}
 use Rattle.reassembly.specs.declared.slot.Key.{Key}
 use Rattle.reassembly.specs.declared.slot.Slot.{Slot}
 use Rattle.reassembly.proofs.Tests.{no-both, by-test, not-true-false}
 use Rattle.promises.specs.Cuttings.{In, Has, Covers, zeroed, Cutting}
-use Rattle.promises.proofs.Fits.{Fit, fit}
+use Rattle.promises.proofs.Fits.{fit}
 use Rattle.promises.proofs.OneSlot.{Holds, holds-nothing, taken→repeats, repeats→taken, touches→shared, again, taking, full→covers, covers→full}
 
 pub length-zeroed : (e : Bool) (d : List ℕ) → length (zeroed e d) ≡ length d

@@ -1,24 +1,24 @@
 -- Demand 3 over frames: runs of the public call `receive`, by the theorem on runs of calls (Theorem.antt).
-use Prim.Native.Nat.{ℕ, _+_, _≤_, _<_}
+use Prim.Native.Nat.{ℕ, _+_, _≤_}
 use native.Mathlib.Omega.{arith}
 use mathlib.Core.Path.{_≡_, refl, sym, ap, _∙_}
 use mathlib.Core.Logic.{_⊎_, inl, inr}
-use mathlib.Core.Bool.{Bool, true, false}
+use mathlib.Core.Bool.{true}
 use mathlib.Core.List.{List, [], _∷_, _++_, map, map-append}
 use lib.ListN.{length, drop}
 use Rattle.octets.specs.Read.{is}
-use Rattle.octets.specs.Write.{put}
 use Rattle.octets.proofs.Puts.{put-front}
 use Rattle.reassembly.specs.Slots.{owner, gatesOf, isGate, held, free}
-use Rattle.reassembly.specs.Parts.{Part, Reply, kept, out, refused, told, ofOutcome, outputAfter, finish}
-use Rattle.reassembly.specs.Table.{Call, part, State, step, comes, next, run, opensIn, endsIn, note, takenSince}
+use Rattle.reassembly.specs.Parts.{Part, Reply, kept, out, refused, told, ofOutcome, outputAfter}
+use Rattle.reassembly.specs.Table.{Call, part, State, step, after, Ready, comes, next, run, opensIn, endsIn, note, takenSince}
+use Rattle.reassembly.specs.Fresh.{Gateways, begun}
 use Rattle.reassembly.specs.declared.slot.Node.{Node}
 use Rattle.reassembly.specs.declared.slot.Key.{Key}
 use Rattle.reassembly.specs.declared.part.Outcome.{Outcome}
 use Rattle.reassembly.proofs.Parts.{length-finish}
-use Rattle.reassembly.proofs.Runs.{Good, step-did, did-good, did-gates, did-length, Gateways, begun, gates-fresh, fresh-good, run-good, run-gates, run-length, after, Ready, comes-one, comes-brought, comes-part}
+use Rattle.reassembly.proofs.Runs.{Good, step-did, did-good, did-gates, did-length, gates-fresh, fresh-good, comes-one, comes-brought, comes-part}
 use Rattle.reassembly.proofs.Promises.{three, tally, outcome-one}
-use Rattle.promises.specs.Cuttings.{In, Has, Covers, Cutting}
+use Rattle.promises.specs.Cuttings.{In, Covers, Cutting}
 use Rattle.promises.specs.Runs.{came, AllKept, MadeOf}
 use Rattle.promises.specs.Runs as Calls
 use Rattle.promises.specs.Frames.{Turn, left, callIn, Ran, endOf, openings, endings, Forward, meant, Brings, partsOf, takenOf, Supposed, Concluded, HandedOut}
@@ -51,9 +51,6 @@ module _ (gs : List Node) (m : List ℕ) where
 
   -- the first call of a run, as a call that comes to σ
   module _ (σ : State) (h : Turn) (hs : List Turn) (F : Fixed gs m σ) (R : Ran σ (h ∷ hs)) where
-    abbrev first-reply : Reply (List ℕ)
-    first-reply = (step σ (meant gs m h)) .reply
-
     left-is : left h ≡ next σ (meant gs m h)
     unfolding Ran next
     left-is =
@@ -375,6 +372,9 @@ unfolding takenSince run
 taken-snoc k [] c σ h = refl
 taken-snoc k (x ∷ cs) c σ h = taken-snoc k cs c (next σ x) (note k x (step σ x) h)
 
+made-small : (k : Key) (ps : List Part) (d : List ℕ) → MadeOf k ps d → length d ≤ 2047
+made-small k ps d M = omega (arith, ap length (M .made), length-finish (M .elided) (M .d₀), M .sized, M .bounded)
+
 module _ (gs : List Node) (m : List ℕ) (W : Gateways gs) (h : 16384 ≤ length m) (hs : List Turn) (R : Ran (begun gs m) hs) where
   -- the gateways stay, and the lent memory keeps its length
   pub gateways-stay : gatesOf (endOf (begun gs m) hs .table) ≡ gs
@@ -411,14 +411,7 @@ module _ (gs : List Node) (m : List ℕ) (W : Gateways gs) (room : 16384 ≤ len
       let M = Theorem.never-meet gs m W room (map (meant gs m) hs) (h .time) p (D .0) e in
       let w : map (meant gs m) (hs ++ (h ∷ [])) ≡ map (meant gs m) hs ++ (part (h .time) p ∷ []) =
       map-append (meant gs m) hs (h ∷ []) ∙ ap (λ (x : Call). map (meant gs m) hs ++ (x ∷ [])) b in
-      let l : length (D .0) ≤ length (h .before) = omega (
-        arith,
-        ap length (M .made),
-        length-finish (M .elided) (M .d₀),
-        M .sized,
-        M .bounded,
-        call-room m (h .before) gs (h .contexts) (h .time) (h .frame) (h .time) p b,
-      ) in
+      let l : length (D .0) ≤ length (h .before) = omega (arith, made-small _ _ (D .0) M, call-room m (h .before) gs (h .contexts) (h .time) (h .frame) (h .time) p b) in
       let O = out-so gs m σ h [] F₁ R₂ (D .0) (D .1) l in
       record {
         datagram = D .0;

@@ -1,16 +1,16 @@
 -- The slot table as an engine that meets the laws (Engine.antt), for every key and every cutting of a datagram under it.
 use Prim.Native.Nat.{ℕ, _+_, _≤_, _<_}
 use native.Mathlib.Omega.{arith}
-use mathlib.Core.Path.{_≡_, refl, _∙_}
-use mathlib.Core.Bool.{Bool, true, false}
+use mathlib.Core.Path.{_≡_, _∙_}
+use mathlib.Core.Bool.{true}
 use mathlib.Core.List.{List, [], _∷_}
 use Rattle.reassembly.specs.Slots.{owner, opened, isKey, gatesOf, isGate}
-use Rattle.reassembly.specs.Parts.{Part, Reply, kept, out, place, offer}
-use Rattle.reassembly.specs.Table.{Call, State, step, comes, next}
+use Rattle.reassembly.specs.Parts.{Part, kept, out, place, offer}
+use Rattle.reassembly.specs.Table.{Call, State, step, after, Ready, comes, next}
 use Rattle.reassembly.specs.declared.slot.Key.{Key}
 use Rattle.reassembly.specs.declared.slot.Slot.{Slot}
 use Rattle.reassembly.proofs.Gateways.{isKey-of}
-use Rattle.reassembly.proofs.Runs.{Good, step-did, did-good, did-gates, did-last, did-other, Holding, Comes, own-offered, own-opens, Ready, after, at-after, comes-one, Brought, comes-brought}
+use Rattle.reassembly.proofs.Runs.{Good, step-did, did-good, did-gates, did-last, did-other, Holding, Comes, own-offered, own-opens, at-after, comes-one, Brought, comes-brought}
 use Rattle.promises.specs.Cuttings.{In, Covers, Cutting}
 use Rattle.promises.proofs.OneSlot.{opened-clear}
 use Rattle.promises.proofs.Filling.{Progress, start, place-keeps, place-hands-out, offer-keeps, offer-hands-out}

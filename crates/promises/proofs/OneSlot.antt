@@ -1,6 +1,6 @@
 -- One slot: what its marks and its memory say of the parts taken in it. The scope document speaks of the parts taken; `repeats`, `touches`
 -- and `full` go by the marks. The theorems here say that the two agree.
-use Prim.Native.Nat.{ℕ, suc, _+_, _*_, _-_, _/_, _≤_, _<_}
+use Prim.Native.Nat.{ℕ, _+_, _*_, _-_, _/_, _≤_, _<_}
 use native.Mathlib.Decide.{ℕ-discrete}
 use native.Mathlib.Omega.{arith}
 use mathlib.Core.Path.{_≡_, refl, sym, ap, _∙_}
@@ -12,8 +12,7 @@ use lib.Seq.{sets, ext-getD, getD-take, getD-drop, length-take-le}
 use lib.Dec.{eqb}
 use borrow.Author.Tests.{eqb-true, eq-eqb, not-true}
 use Rattle.octets.specs.Read.{choose}
-use Rattle.octets.specs.Write.{put}
-use Rattle.marks.specs.Marks.{hasIn, fill, unpack, pack}
+use Rattle.marks.specs.Marks.{hasIn, fill, unpack}
 use Rattle.marks.proofs.Words.{length-fill, unpack-pack}
 use Rattle.expand.proofs.CopyLaws.{length-put}
 use Rattle.reassembly.specs.Lists.{sameList}

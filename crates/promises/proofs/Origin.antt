@@ -1,10 +1,10 @@
 -- Where the bytes of a datagram that is handed out come from: the parts taken under its key since its slot was opened.
-use Prim.Native.Nat.{ℕ, _+_, _*_, _-_, _≤_, _<_}
+use Prim.Native.Nat.{ℕ, _<_}
 use native.Mathlib.Decide.{ℕ-discrete}
 use native.Mathlib.Omega.{arith}
 use mathlib.Core.Path.{_≡_, refl, sym, ap, _∙_}
 use mathlib.Core.Logic.{_≢_}
-use mathlib.Core.Bool.{Bool, true, false}
+use mathlib.Core.Bool.{true, false}
 use mathlib.Core.List.{List, [], _∷_}
 use lib.ListN.{length, getD, set, take, replicate, length-replicate}
 use lib.Seq.{getD-set-same, getD-set-other, getD-take, length-take-le}
@@ -12,7 +12,7 @@ use Rattle.reassembly.specs.Lists.{count}
 use Rattle.reassembly.specs.Slots.{sameKey, freeSlot, opened, isKey, expired, expire1, expire}
 use Rattle.reassembly.specs.Parts.{Part, Reply, kept, out, refused, fits, repeats, touches, takenIn, taken, written, full, finish, Put, place, offer}
 use Rattle.reassembly.specs.Table.{Call, short, other, part, State, Result, chunk, splice, withSlots, untouched, slotsAt, pass, land, offerAt, openAt, step, next, run, note, takenSince}
-use Rattle.reassembly.specs.Fresh.{fresh}
+use Rattle.reassembly.specs.Fresh.{fresh, begun}
 use Rattle.reassembly.specs.declared.slot.Node.{Node}
 use Rattle.reassembly.specs.declared.slot.Key.{Key}
 use Rattle.reassembly.specs.declared.slot.Slot.{Slot}
@@ -22,8 +22,7 @@ use Rattle.reassembly.proofs.Slots.{sameKey-eq, sameKey-refl}
 use Rattle.reassembly.proofs.Gateways.{isKey-key, isKey-of, freeSlot-key, getD-expire, expire1-young, After, freed, stays}
 use Rattle.reassembly.proofs.Parts.{place-length, offer-length}
 use Rattle.reassembly.proofs.Memory.{chunk-same, chunk-other}
-use Rattle.reassembly.proofs.Runs.{offer-after, place-after, Good, good-at, Offered, Opens, Did, lacking, stale, passed, offered, opens, Says, step-did, did-good, Holding, chunk-len, len-at, begun}
-use Rattle.promises.specs.Cuttings.{In, Has}
+use Rattle.reassembly.proofs.Runs.{offer-after, place-after, Good, good-at, Offered, Opens, Did, lacking, stale, passed, offered, opens, Says, step-did, did-good, Holding, chunk-len, len-at}
 use Rattle.promises.specs.Runs.{MadeOf}
 use Rattle.promises.proofs.Fits.{fit}
 use Rattle.promises.proofs.OneSlot.{Holds, holds-nothing, opened-clear, taking, full→covers}

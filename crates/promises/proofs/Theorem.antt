@@ -1,18 +1,19 @@
 -- Demand 3 over runs of calls: the main theorem (Engine.antt, at Instance.antt) and its companions.
-use Prim.Native.Nat.{ℕ, _+_, _≤_, _<_}
-use native.Mathlib.Omega.{arith}
-use mathlib.Core.Path.{_≡_, refl, sym, ap, _∙_}
-use mathlib.Core.Bool.{Bool, true, false}
+use Prim.Native.Nat.{ℕ, _+_, _*_, _-_, _≤_, _<_}
+use mathlib.Core.Path.{_≡_, refl, ap, _∙_}
+use mathlib.Core.Logic.{_⊎_}
+use mathlib.Core.Bool.{true}
 use mathlib.Core.List.{List, [], _∷_, _++_}
-use lib.ListN.{length}
+use lib.ListN.{length, getD}
 use Rattle.reassembly.specs.Slots.{owner, gatesOf, isGate, held}
-use Rattle.reassembly.specs.Parts.{Part, Reply, kept, out}
-use Rattle.reassembly.specs.Table.{Call, part, State, slotsAt, step, comes, next, run, note, takenSince}
-use Rattle.reassembly.specs.Fresh.{fresh}
+use Rattle.reassembly.specs.Parts.{Part, out}
+use Rattle.reassembly.specs.Table.{Call, part, State, step, after, Ready, comes, next, run, note, takenSince}
+use Rattle.reassembly.specs.Fresh.{fresh, Gateways, begun}
 use Rattle.reassembly.specs.declared.slot.Node.{Node}
 use Rattle.reassembly.specs.declared.slot.Key.{Key}
-use Rattle.reassembly.proofs.Runs.{Gateways, begun, gates-fresh, fresh-good, run-good, run-gates, after, comes-part, step-did, Ready, none-ready, none-before}
-use Rattle.promises.specs.Cuttings.{In, Covers, Cutting}
+use Rattle.reassembly.proofs.Parts.{finish-byte}
+use Rattle.reassembly.proofs.Runs.{gates-fresh, fresh-good, run-good, run-gates, comes-part, step-did, none-ready, none-before}
+use Rattle.promises.specs.Cuttings.{In, Has, Cutting}
 use Rattle.promises.specs.Runs.{came, Forward, AllKept, Supposed, Concluded, MadeOf}
 use Rattle.promises.proofs.Engine as Engine
 use Rattle.promises.proofs.Instance.{engine, Fine, laws}
@@ -127,3 +128,10 @@ never-meet gs m W h cs t p d a =
     let G = run-good cs (begun gs m) G₀ in
     did-made (p .key) (run (begun gs m) cs) (takenSince (p .key) (begun gs m) cs []) d G (step-did (run (begun gs m) cs) (part t p) G)
     (run-told cs (p .key) (begun gs m) [] G₀ (fresh-told gs m (p .key))) refl a
+
+-- byte by byte: of a datagram made of the parts hs each byte but a computed checksum's, at 46 and 47, is that of one of them at its place
+pub each-byte : (k : Key) (hs : List Part) (d : List ℕ) (M : MadeOf k hs d) (x : ℕ) → x < k .size → (M .elided ≡ true → (x < 46) ⊎ (48 ≤ x))
+    → (q : Part) × In q hs × (q .key ≡ k) × Has q x × (getD d x 0 ≡ getD (q .bytes) (x - q .unit * 8) 0)
+each-byte k hs d M x h a =
+    let w = M .each x h in
+    (w .0, w .1, w .2, w .3, ap (λ (z : List ℕ). getD z x 0) (M .made) ∙ finish-byte (M .elided) (M .d₀) x a ∙ w .4)

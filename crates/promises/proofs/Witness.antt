@@ -1,12 +1,12 @@
 -- What demand 3 supposes can be met: two runs of `receive`, in bytes (Worked.antt), over any lent memory and any outputs that are long enough.
-use Prim.Native.Nat.{ℕ, _+_, _≤_, _<_}
+use Prim.Native.Nat.{ℕ, _≤_}
 use native.Mathlib.Omega.{arith}
 use mathlib.Core.Path.{_≡_, refl, sym, ap, _∙_}
 use mathlib.Core.Logic.{inl, inr}
-use mathlib.Core.Bool.{Bool, true, false, _&&_, _||_}
-use mathlib.Core.List.{List, [], _∷_, _++_, map}
-use lib.ListN.{length, drop}
-use lib.Dec.{ltb, lit≤, lit<}
+use mathlib.Core.Bool.{Bool, true, false}
+use mathlib.Core.List.{List, [], _∷_}
+use lib.ListN.{length}
+use lib.Dec.{lit≤, lit<}
 use borrow.Author.Tests.{le-ltb}
 use Rattle.octets.specs.Read.{is}
 use Rattle.octets.specs.Write.{put, be16Bytes, be32Bytes}
@@ -17,18 +17,18 @@ use Rattle.expand.specs.Sum.{words, onesSum, pseudo, covered, udpChecksum, summ
 use Rattle.reassembly.specs.Lists.{count, firstAt, those}
 use Rattle.reassembly.specs.Slots.{noNode, sameNode, present, sameKey, freeSlot, opened, isFree, isKey, isOf, expired, expire1, expire, gatesOf, isGate, held, free, idleOthers, mayOpen}
 use Rattle.reassembly.specs.Parts.{Part, Reply, kept, out, refused, told, ofOutcome, outputAfter, units, fitsIn, fits, finish, spans, repeatsIn, takenIn, full, place, offer}
-use Rattle.reassembly.specs.Table.{Call, part, State, withSlots, slotsAt, land, whereKey, whereFree, offerAt, openAt, takePart, lentCall, step, Gives, comes, next, run}
-use Rattle.reassembly.specs.Fresh.{seats, fresh, nodes, unfit, refusedList}
+use Rattle.reassembly.specs.Table.{part, State, withSlots, slotsAt, land, whereKey, whereFree, offerAt, openAt, takePart, lentCall, step, Gives, comes, next, run}
+use Rattle.reassembly.specs.Fresh.{seats, fresh, nodes, unfit, refusedList, Gateways, begun}
 use Rattle.reassembly.specs.declared.slot.Key.{Key}
 use Rattle.reassembly.specs.declared.part.Outcome.{Outcome}
 use Rattle.reassembly.proofs.Fresh.{accepted}
-use Rattle.reassembly.proofs.Runs.{Gateways, begun, comes-part}
+use Rattle.reassembly.proofs.Runs.{comes-part}
 use Rattle.receiver.specs.Receive.{frameCall, callOf}
 use Rattle.receiver.specs.Names.{named}
-use Rattle.promises.specs.Cuttings.{In, Covers, zeroed, Cutting}
+use Rattle.promises.specs.Cuttings.{In, zeroed, Cutting}
 use Rattle.promises.specs.Runs.{came, AllKept}
 use Rattle.promises.specs.Runs as Calls
-use Rattle.promises.specs.Frames.{Turn, left, callIn, Ran, endOf, Forward, meant, Brings, partsOf, Supposed, Concluded}
+use Rattle.promises.specs.Frames.{Turn, callIn, Ran, endOf, Forward, meant, Brings, partsOf, Supposed, Concluded}
 use Rattle.promises.proofs.TwoParts.{low, high, halves, low-in, high-in, halves-cover, low-missing, high-missing}
 use Rattle.receiver.proofs.Names.{frame-part}
 use Rattle.promises.proofs.Frames.{Fixed, fixed-begun, fixed-next, call-is, ran-left, as-calls, demand-3}

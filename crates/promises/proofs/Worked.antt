@@ -2,9 +2,9 @@
 -- each cut in two at byte 56, all under the tag 7.
 use Prim.Native.Nat.{ℕ}
 use mathlib.Core.Path.{_≡_, refl}
-use mathlib.Core.Bool.{Bool, true, false}
-use mathlib.Core.List.{List, [], _∷_, _++_}
-use Rattle.octets.specs.Read.{is, byte, be16, le16}
+use mathlib.Core.Bool.{true, false}
+use mathlib.Core.List.{List, [], _∷_}
+use Rattle.octets.specs.Read.{byte, be16, le16}
 use Rattle.octets.specs.Write.{put, byteBytes, be16Bytes, be32Bytes, be64Bytes}
 use Rattle.ieee802154.specs.Control.{supported, hasSequence, hasAddressing, carried01, carried}
 use Rattle.ieee802154.specs.Addressing.{panField, addressField, side, sides, addressing}
@@ -22,7 +22,7 @@ use Rattle.expand.specs.Expand as Expand
 use Rattle.incoming.specs.Incoming.{arrival, piece, fragment, payload}
 use Rattle.reassembly.specs.Lists.{count}
 use Rattle.reassembly.specs.Slots.{sameNode, present, isGate}
-use Rattle.reassembly.specs.Table.{Call, part}
+use Rattle.reassembly.specs.Table.{part}
 use Rattle.reassembly.specs.declared.slot.Node.{Node}
 use Rattle.reassembly.specs.declared.slot.Key.{Key}
 use Rattle.receiver.specs.Receive.{keyOf, welcome, admitted, frameCall}

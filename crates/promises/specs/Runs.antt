@@ -2,15 +2,15 @@
 -- words in quotes; and of which parts a datagram is made.
 use Prim.Native.Nat.{ℕ, _+_, _*_, _-_, _≤_, _<_}
 use mathlib.Core.Path.{_≡_}
-use mathlib.Core.Bool.{Bool, true, false}
+use mathlib.Core.Bool.{Bool, true}
 use mathlib.Core.List.{List, [], _∷_, _++_}
 use lib.ListN.{length, getD}
 use Rattle.reassembly.specs.Slots.{owner, isGate}
 use Rattle.reassembly.specs.Parts.{Part, kept, out, finish}
-use Rattle.reassembly.specs.Table.{Call, part, State, step, comes, next, run}
+use Rattle.reassembly.specs.Table.{Call, part, State, step, after, comes, next, run}
+use Rattle.reassembly.specs.Fresh.{Gateways}
 use Rattle.reassembly.specs.declared.slot.Node.{Node}
 use Rattle.reassembly.specs.declared.slot.Key.{Key}
-use Rattle.reassembly.proofs.Runs.{Gateways, begun, after}
 use Rattle.promises.specs.Cuttings.{In, Has, Covers, Cutting}
 
 -- the parts that come under k in a run; one that fails check 10 is none

@@ -11,17 +11,17 @@ use lib.Seq.{take-at, length-take-le}
 use lib.Dec.{ltb, leb}
 use borrow.Author.Tests.{lt-ltb, le-ltb, lt-leb, ltb-false, leb-false}
 use Rattle.octets.specs.declared.refusal.Refusal.{Refusal}
+use Rattle.octets.proofs.Spans.{not-refused}
 use Rattle.ieee802154.specs.declared.addr.Address.{Address}
 use Rattle.reassembly.specs.Lists.{bit, count, firstAt, those}
 use Rattle.reassembly.specs.Slots.{nodeOf, noNode, sameNode, present, freeSlot}
-use Rattle.reassembly.specs.Fresh.{ofListed, seats, fresh, nodes, unfit, refusedList, listed, made, Begins}
+use Rattle.reassembly.specs.Fresh.{ofListed, seats, fresh, nodes, unfit, refusedList, listed, made, Begins, Gateways}
 use Rattle.reassembly.specs.declared.slot.Node.{Node}
 use Rattle.reassembly.specs.declared.table.Table.{Table}
 use Rattle.reassembly.specs.declared.table.Listed.{Listed}
 use Rattle.reassembly.proofs.Tests.{by-test, by-order, not-true-false, no-both, or-cases}
 use Rattle.reassembly.proofs.Lists.{count-at, firstAt-found, firstAt-holds}
 use Rattle.reassembly.proofs.Slots.{sameNode-eq}
-use Rattle.reassembly.proofs.Runs.{Gateways}
 
 -- ---- seats
 
@@ -92,6 +92,10 @@ fit-once gs g e = by-order (count (sameNode g) gs) 1 (λ h. h) (λ h. no-both tr
     or-true true = refl
     or-true false = refl
 
+or-no : (a b : Bool) → (a || b) ≡ false → (a ≡ false) × (b ≡ false)
+or-no true b q = (cc, cc)
+or-no false b q = (refl, q)
+
 pub accepted : (n : ℕ) (l : List Address) → n ≤ length l → refusedList n (nodes n l) ≡ false → Gateways (nodes n l)
 unfolding refusedList
 accepted n l h e =
@@ -111,7 +115,12 @@ accepted n l h e =
           rw same (fit-once gs (getD gs i noNode) fit))
           (λ c. omega arith);
     }
-  where
-    or-no : (a b : Bool) → (a || b) ≡ false → (a ≡ false) × (b ≡ false)
-    or-no true b q = (cc, cc)
-    or-no false b q = (refl, q)
+
+-- the table that `Table::new` makes of a list that it accepts is a fresh one, and the list is one that 14 lets pass
+pub new-fresh : (n : ℕ) (l : List Address) (x : Table) → length l ≡ 4 → Begins Listed.Accepted x n l → (x ≡ fresh (nodes n l)) × Gateways (nodes n l)
+unfolding listed made refusedList
+new-fresh n l x four B = by-test (refusedList n (nodes n l))
+    (λ e. not-refused tt 14 (sym (rw e at (B .answer))))
+    (λ e.
+    let short : n ≤ 4 = ltb-false 4 n (or-no (ltb 4 n) (leb 1 (count (unfit (nodes n l)) (nodes n l))) e .0) in
+    (rw e at (B .table), accepted n l (omega arith) e))

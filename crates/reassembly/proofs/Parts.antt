@@ -1,16 +1,17 @@
 -- A part and one slot: what the functions on one slot do, answer by answer.
 use Prim.Native.Nat.{ℕ, _+_, _*_, _≤_, _<_}
 use mathlib.Core.Path.{_≡_, refl, sym, ap, _∙_}
+use mathlib.Core.Logic.{_⊎_, inl, inr}
 use mathlib.Core.Bool.{Bool, true, false}
 use mathlib.Core.List.{List, _++_}
-use lib.ListN.{length, take, drop}
+use lib.ListN.{length, getD, take, drop}
 use lib.Seq.{length-take-le}
 use lib.Dec.{leb}
-use borrow.Author.Tests.{le-leb, lt-leb}
+use borrow.Author.Tests.{le-leb, lt-leb, leb-true}
 use native.Mathlib.Omega.{arith}
-use Rattle.octets.specs.Write.{put}
+use Rattle.octets.specs.Write.{put, be16Bytes}
 use Rattle.octets.proofs.Puts.{put-front}
-use Rattle.expand.specs.Sum.{summed, summedIn}
+use Rattle.expand.specs.Sum.{udpChecksum, summed, summedIn}
 use Rattle.expand.proofs.CopyLaws.{length-put}
 use Rattle.expand.proofs.SumLaws.{too-short, summed-front}
 use Rattle.expand.proofs.ExpandLaws.{length-summed}
@@ -18,6 +19,7 @@ use Rattle.octets.specs.declared.refusal.Refusal.{Refusal}
 use Rattle.reassembly.specs.Slots.{freeSlot}
 use Rattle.reassembly.specs.Parts.{Part, partOf, Reply, kept, out, refused, repeats, touches, takenIn, taken, written, full, finish, Put, place, offer, Does}
 use Rattle.reassembly.proofs.Tests.{by-test, by-order}
+use Rattle.reassembly.proofs.Lists.{getD-sets-before, getD-sets-after, put-sets}
 use Rattle.reassembly.specs.declared.slot.Key.{Key}
 use Rattle.reassembly.specs.declared.slot.Slot.{Slot}
 use Rattle.reassembly.specs.declared.part.Outcome.{Outcome}
@@ -36,6 +38,17 @@ pub length-finish : (e : Bool) (d : List ℕ) → length (finish e d) ≡ length
 unfolding finish
 length-finish true d = by-test (leb 48 (length d)) (λ h. rw h (length-summed d)) (λ h. rw h)
 length-finish false d = refl
+
+summed-byte : (d : List ℕ) (x : ℕ) → 48 ≤ length d → (x < 46) ⊎ (48 ≤ x) → getD (summed d) x 0 ≡ getD d x 0
+unfolding summed be16Bytes
+summed-byte d x l (inl h) = rw (put-sets 46 (be16Bytes (udpChecksum d)) d (omega arith)) (getD-sets-before (be16Bytes (udpChecksum d)) d 46 x 0 h)
+summed-byte d x l (inr h) = rw (put-sets 46 (be16Bytes (udpChecksum d)) d (omega arith)) (getD-sets-after (be16Bytes (udpChecksum d)) d 46 x 0 (omega arith))
+
+-- a computed checksum aside, each byte is handed out as it stands in the slot
+pub finish-byte : (e : Bool) (d : List ℕ) (x : ℕ) → (e ≡ true → (x < 46) ⊎ (48 ≤ x)) → getD (finish e d) x 0 ≡ getD d x 0
+unfolding finish
+finish-byte true d x h = by-test (leb 48 (length d)) (λ q. rw q (summed-byte d x (leb-true 48 (length d) q) (h refl))) (λ q. rw q)
+finish-byte false d x h = refl
 
 -- the datagram d at the output's start, and what is computed in it there
 pub hand-plain : (d o : List ℕ) → put 0 d o ≡ put 0 (finish false d) o

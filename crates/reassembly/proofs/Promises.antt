@@ -13,7 +13,7 @@ use Rattle.reassembly.specs.Lists.{count, firstAt}
 use Rattle.reassembly.specs.Slots.{opened, isFree, expired, gatesOf, isGate, held, free, mayOpen, opening}
 use Rattle.reassembly.specs.Parts.{Reply, kept, out, refused, told, ofOutcome}
 use Rattle.reassembly.specs.Table.{Call, State, Result, slotsAt, run, opensIn, endsIn, Gives}
-use Rattle.reassembly.specs.Fresh.{Begins, ofListed}
+use Rattle.reassembly.specs.Fresh.{Begins, ofListed, Gateways, begun}
 use Rattle.reassembly.specs.declared.slot.Node.{Node}
 use Rattle.reassembly.specs.declared.slot.Key.{Key}
 use Rattle.reassembly.specs.declared.part.Outcome.{Outcome}
@@ -22,7 +22,7 @@ use Rattle.reassembly.specs.declared.table.Received.{Received}
 use Rattle.reassembly.specs.declared.table.Listed.{Listed}
 use Rattle.reassembly.proofs.Lists.{firstAt-found}
 use Rattle.reassembly.proofs.Gateways.{idle, free-for-idle, mayOpen-none, mayOpen-rule, Sound}
-use Rattle.reassembly.proofs.Runs.{Gateways, begun, Good, good-at, fresh-good, fresh-free, run-good, run-count}
+use Rattle.reassembly.proofs.Runs.{Good, good-at, fresh-good, fresh-free, run-good, run-count}
 
 module _ (gs : List Node) (m : List ℕ) (W : Gateways gs) (h : 16384 ≤ length m) (cs : List Call) where
   good : Good (run (begun gs m) cs)

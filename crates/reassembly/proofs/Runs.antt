@@ -13,8 +13,8 @@ use Rattle.octets.specs.Read.{choose}
 use Rattle.reassembly.specs.Lists.{bit, count, firstAt, those}
 use Rattle.reassembly.specs.Slots.{noNode, sameNode, present, sameKey, owner, busy, freeSlot, opened, isFree, isKey, isOf, expired, gatesOf, isGate, held, free, mayOpen}
 use Rattle.reassembly.specs.Parts.{Part, Reply, kept, out, refused, fits, repeats, touches, takenIn, taken, written, full, Put, place, offer}
-use Rattle.reassembly.specs.Table.{Call, short, other, part, State, Result, chunk, splice, withSlots, untouched, slotsAt, aged, pass, land, whereKey, whereFree, offerAt, openAt, takePart, step, At, comes, next, run, opensIn, endsIn}
-use Rattle.reassembly.specs.Fresh.{seats, fresh}
+use Rattle.reassembly.specs.Table.{Call, short, other, part, State, Result, chunk, splice, withSlots, untouched, slotsAt, aged, pass, land, whereKey, whereFree, offerAt, openAt, takePart, step, At, comes, Ready, after, next, run, opensIn, endsIn}
+use Rattle.reassembly.specs.Fresh.{seats, fresh, Gateways, begun}
 use Rattle.reassembly.specs.declared.slot.Node.{Node}
 use Rattle.reassembly.specs.declared.slot.Key.{Key}
 use Rattle.reassembly.specs.declared.slot.Slot.{Slot}
@@ -335,11 +335,6 @@ own-offered k σ t p i s b G H K y =
       holding = λ q. rw (e, f) (land-own k σ i t 0 (offer s b p) G (H .low) lb q);
     }
 
--- the part's key is not open as the call finds the table, and its gateway may open a slot
-pub record Ready (k : Key) (σ : State) (t : ℕ) : Type 0 where
-  pub closed : count (isKey k) (slotsAt t σ) ≡ 0
-  pub may : mayOpen (owner k) (gatesOf (σ .table)) (slotsAt t σ) ≡ true
-
 -- a gateway that holds no slot, once the call has freed the old ones, is ready for every key
 pub none-ready : (k : Key) (σ : State) (t : ℕ) → Good σ → isGate (owner k) (gatesOf (σ .table)) ≡ true → held (owner k) (slotsAt t σ) ≡ 0 → Ready k σ t
 none-ready k σ t G gate z = record {
@@ -382,12 +377,6 @@ own-opens k σ t p G K R =
     )
 
 -- ---- the clock
-
--- the clock after a call
-abbrev pub after : ℕ → Call → ℕ
-after n short = n
-after n (other t a) = t
-after n (part t p) = t
 
 pub at-after : (c : Call) (n t : ℕ) → At c t → after n c ≡ t
 at-after short n t e = absurd e
@@ -446,12 +435,6 @@ comes-part k t q e f = let g : sameKey (q .key) k ≡ true = rw e (sameKey-refl 
 
 -- ---- a fresh table
 
--- the gateways' list, as 14 lets it pass: at most four, each present, no two equal
-pub record Gateways (gs : List Node) : Type 0 where
-  pub four : length gs ≤ 4
-  pub seated : those present gs ≡ gs
-  pub distinct : (g : Node) → count (sameNode g) gs ≤ 1
-
 load-none : (gs : List Node) (l : List Slot) → ((g : Node) → held g l ≡ 0) → load gs l ≡ length gs
 unfolding load
 load-none [] l f = refl
@@ -470,10 +453,6 @@ those-empty (suc n) = those-empty n
 pub gates-fresh : (gs : List Node) → Gateways gs → gatesOf (fresh gs) ≡ gs
 unfolding gatesOf fresh seats
 gates-fresh gs W = those-append gs (replicate (4 - length gs) noNode) ∙ rw (those-empty (4 - length gs), W .seated) (append-nil gs)
-
--- a table at its beginning, and the lent memory as it happens to be
-abbrev pub begun : List Node → List ℕ → State
-begun gs m = record { table = fresh gs; mem = m }
 
 pub fresh-good : (gs : List Node) (m : List ℕ) → Gateways gs → 16384 ≤ length m → Good (begun gs m)
 fresh-good gs m W h = record { sound = rw (gates-fresh gs W) sound′; room = h }
@@ -511,8 +490,3 @@ pub run-gates : (cs : List Call) (σ : State) → Good σ → gatesOf (run σ cs
 unfolding run next
 run-gates [] σ G = refl
 run-gates (c ∷ cs) σ G = run-gates cs (next σ c) (did-good σ G (step-did σ c G)) ∙ did-gates σ (step-did σ c G)
-
-pub run-length : (cs : List Call) (σ : State) → Good σ → length (run σ cs .mem) ≡ length (σ .mem)
-unfolding run next
-run-length [] σ G = refl
-run-length (c ∷ cs) σ G = run-length cs (next σ c) (did-good σ G (step-did σ c G)) ∙ did-length σ (step-did σ c G)

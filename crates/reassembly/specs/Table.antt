@@ -143,6 +143,17 @@ At short t = ⊥
 At (other u a) t = u ≡ t
 At (part u p) t = u ≡ t
 
+-- the clock after a call, where it was n
+abbrev pub after : ℕ → Call → ℕ
+after n short = n
+after n (other t a) = t
+after n (part t p) = t
+
+-- as a call at t finds the table, once it has freed the old slots, k is not open and its gateway may open a slot
+pub record Ready (k : Key) (σ : State) (t : ℕ) : Type 0 where
+  pub closed : count (isKey k) (slotsAt t σ) ≡ 0
+  pub may : mayOpen (owner k) (gatesOf (σ .table)) (slotsAt t σ) ≡ true
+
 -- the acceptable part that a call brings under k, if any: what it is that "comes" under k
 unfoldable pub comes : Key → Call → List Part
 comes k short = []

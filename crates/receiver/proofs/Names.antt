@@ -9,18 +9,16 @@ use lib.ListN.{length}
 use lib.Dec.{ltb}
 use borrow.Author.Tests.{ltb-false}
 use Rattle.octets.specs.Read.{Answer, is, refused, andThen, choose}
-use Rattle.sixlowpan.specs.Frag.{frag, sizeOf, tagOf}
 use Rattle.incoming.specs.Incoming.{arrival, Brought, datagram, payload}
 use Rattle.incoming.specs.Incoming as Incoming
 use Rattle.incoming.specs.declared.arrival.Arrival.{Arrival}
 use Rattle.incoming.proofs.Names.{Headed, part-header}
 use Rattle.reassembly.specs.Slots.{nodeOf, present, owner, isGate}
-use Rattle.reassembly.specs.Parts.{Part, partOf, Reply}
-use Rattle.reassembly.specs.Table.{Call, short, other, part, lentCall}
+use Rattle.reassembly.specs.Parts.{Part, Reply}
+use Rattle.reassembly.specs.Table.{Call, short, other, part, lentCall, after}
 use Rattle.reassembly.specs.declared.slot.Node.{Node}
 use Rattle.reassembly.specs.declared.slot.Key.{Key}
 use Rattle.reassembly.proofs.Tests.{by-test}
-use Rattle.reassembly.proofs.Runs.{after}
 use Rattle.receiver.specs.Receive.{keyOf, welcome, admitted, brings, carries, frameCall, callOf}
 use Rattle.receiver.specs.Names.{named}
 
