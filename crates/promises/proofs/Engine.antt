@@ -3,9 +3,9 @@
 -- (Instance.antt); the laws rest on the three that reassembly/proofs/Runs.antt proves of `step`.
 use Prim.Native.Nat.{ℕ, _+_, _≤_, _<_}
 use native.Mathlib.Omega.{arith}
-use mathlib.Core.Path.{_≡_, refl, sym, _∙_}
+use mathlib.Core.Path.{_≡_, refl, sym, ap, _∙_}
 use mathlib.Core.Logic.{_⊎_, inl, inr}
-use mathlib.Core.List.{List, [], _∷_, _++_}
+use mathlib.Core.List.{List, [], _∷_, _++_, append-assoc}
 use Rattle.reassembly.specs.Parts.{Part, Reply, kept, out}
 use Rattle.promises.specs.Cuttings.{In, Covers}
 
@@ -96,12 +96,36 @@ In-cases a (p ∷ ps) qs (inr m) = go (In-cases a ps qs m)
     go (inl h) = inl (inr h)
     go (inr h) = inr h
 
-module _ (E : Engine) (parts : List Part) (d : List ℕ) (size gap : ℕ) (L : Laws E parts d size gap) where
+-- ---- a run in two pieces
+
+module _ (E : Engine) where
   clock-grows : (n : ℕ) (cs : List (E .Call)) → Clock E n cs → n ≤ clock E n cs
   unfolding Clock clock
   clock-grows n [] k = omega arith
   clock-grows n (c ∷ cs) k = let r = clock-grows (E .after n c) cs (k .1) in omega (arith, k .0)
 
+  pub clock-append : (xs ys : List (E .Call)) (n : ℕ) → clock E n (xs ++ ys) ≡ clock E (clock E n xs) ys
+  unfolding clock
+  clock-append [] ys n = refl
+  clock-append (x ∷ xs) ys n = clock-append xs ys (E .after n x)
+
+  pub Clock-left : (xs ys : List (E .Call)) (n : ℕ) → Clock E n (xs ++ ys) → Clock E n xs
+  unfolding Clock
+  Clock-left [] ys n k = tt
+  Clock-left (x ∷ xs) ys n k = (k .0, Clock-left xs ys (E .after n x) (k .1))
+
+  pub Clock-right : (xs ys : List (E .Call)) (n : ℕ) → Clock E n (xs ++ ys) → Clock E (clock E n xs) ys
+  unfolding Clock clock
+  Clock-right [] ys n k = k
+  Clock-right (x ∷ xs) ys n k = Clock-right xs ys (E .after n x) (k .1)
+
+  pub came-append : (xs ys : List (E .Call)) → came E (xs ++ ys) ≡ came E xs ++ came E ys
+  unfolding came
+  came-append [] ys = refl
+  came-append (x ∷ xs) ys =
+      ap (λ (ps : List Part). E .comes x ++ ps) (came-append xs ys) ∙ sym (append-assoc (E .comes x) (came E xs) (came E ys))
+
+module _ (E : Engine) (parts : List Part) (d : List ℕ) (size gap : ℕ) (L : Laws E parts d size gap) where
   -- what is left of a run after the earliest part, while the parts that came do not cover
   pub record Filled (cs : List (E .Call)) (σ : E .State) (t : ℕ) (ps : List Part) : Type 0 where
     pub all-kept : AllKept E σ cs
@@ -141,7 +165,7 @@ module _ (E : Engine) (parts : List Part) (d : List ℕ) (size gap : ℕ) (L : L
 
     now-time : E .after (E .last σ) c < t + gap
     unfolding clock Clock
-    now-time = omega (arith, clock-grows (E .after (E .last σ) c) cs (k .1), y)
+    now-time = omega (arith, clock-grows E (E .after (E .last σ) c) cs (k .1), y)
 
     -- a part of the rest, or of what came before, is one of the whole
     later : (p : Part) → In p (came E cs) → In p (came E (c ∷ cs) ++ ps)
@@ -247,56 +271,6 @@ module _ (E : Engine) (parts : List Part) (d : List ℕ) (size gap : ℕ) (L : L
   }
   filling (c ∷ cs) = λ σ t ps G F k y cut nc al. fill-step c cs (filling cs) σ t ps G F k y cut nc al
 
-  -- ---- a run in two pieces
-
-  pub clock-append : (xs ys : List (E .Call)) (n : ℕ) → clock E n (xs ++ ys) ≡ clock E (clock E n xs) ys
-  unfolding clock
-  clock-append [] ys n = refl
-  clock-append (x ∷ xs) ys n = clock-append xs ys (E .after n x)
-
-  pub Clock-left : (xs ys : List (E .Call)) (n : ℕ) → Clock E n (xs ++ ys) → Clock E n xs
-  unfolding Clock
-  Clock-left [] ys n k = tt
-  Clock-left (x ∷ xs) ys n k = (k .0, Clock-left xs ys (E .after n x) (k .1))
-
-  pub Clock-right : (xs ys : List (E .Call)) (n : ℕ) → Clock E n (xs ++ ys) → Clock E (clock E n xs) ys
-  unfolding Clock clock
-  Clock-right [] ys n k = k
-  Clock-right (x ∷ xs) ys n k = Clock-right xs ys (E .after n x) (k .1)
-
-  came-left : (xs ys : List (E .Call)) (p : Part) → In p (came E xs) → In p (came E (xs ++ ys))
-  unfolding came
-  came-left [] ys p m = absurd m
-  came-left (x ∷ xs) ys p m = go (In-cases p (E .comes x) (came E xs) m) (λ h. came-left xs ys p h)
-    where
-      go : In p (E .comes x) ⊎ In p (came E xs) → (In p (came E xs) → In p (came E (xs ++ ys))) → In p (E .comes x ++ came E (xs ++ ys))
-      go (inl h) ih = In-left p (E .comes x) (came E (xs ++ ys)) h
-      go (inr h) ih = In-right p (E .comes x) (came E (xs ++ ys)) (ih h)
-
-  came-right : (xs ys : List (E .Call)) (p : Part) → In p (came E ys) → In p (came E (xs ++ ys))
-  unfolding came
-  came-right [] ys p m = m
-  came-right (x ∷ xs) ys p m = In-right p (E .comes x) (came E (xs ++ ys)) (came-right xs ys p m)
-
-  came-cases : (xs ys : List (E .Call)) (p : Part) → In p (came E (xs ++ ys)) → In p (came E xs) ⊎ In p (came E ys)
-  unfolding came
-  came-cases [] ys p m = inr m
-  came-cases (x ∷ xs) ys p m = go (In-cases p (E .comes x) (came E (xs ++ ys)) m) (λ h. came-cases xs ys p h)
-    where
-      go : In p (E .comes x) ⊎ In p (came E (xs ++ ys)) → (In p (came E (xs ++ ys)) → In p (came E xs) ⊎ In p (came E ys))
-          → In p (E .comes x ++ came E xs) ⊎ In p (came E ys)
-      go (inl h) ih = inl (In-left p (E .comes x) (came E xs) h)
-      go (inr h) ih = next (ih h)
-        where
-          next : In p (came E xs) ⊎ In p (came E ys) → In p (E .comes x ++ came E xs) ⊎ In p (came E ys)
-          next (inl g) = inl (In-right p (E .comes x) (came E xs) g)
-          next (inr g) = inr g
-
-  pub runs-good : (cs : List (E .Call)) (σ : E .State) → L .Good σ → ((x : E .Call) → In x cs → L .Allowed x) → L .Good (runs E σ cs)
-  unfolding runs
-  runs-good [] σ G al = G
-  runs-good (c ∷ cs) σ G al = runs-good cs (E .next σ c) (L .good σ c G (al c (inl refl))) (λ x m. al x (inr m))
-
   pub runs-last : (cs : List (E .Call)) (σ : E .State) → L .Good σ → Clock E (E .last σ) cs → ((x : E .Call) → In x cs → L .Allowed x)
       → E .last (runs E σ cs) ≡ clock E (E .last σ) cs
   unfolding runs clock Clock
@@ -367,7 +341,7 @@ module _ (E : Engine) (parts : List Part) (d : List ℕ) (size gap : ℕ) (L : L
 
     time₁ : clock E (clock E (E .last σ₁) ms) (c ∷ []) < E .after (E .last σ) f + gap
     unfolding clock
-    time₁ = rw (tick₁, ← clock-append ms (c ∷ []) (E .after (E .last σ) f)) y
+    time₁ = rw (tick₁, ← clock-append E ms (c ∷ []) (E .after (E .last σ) f)) y
 
     after-first : (E .reply σ f ≡ kept) × L .Filling σ₁ (E .after (E .last σ) f) (q₁ ∷ [])
     unfolding Starts came σ₁
@@ -394,9 +368,9 @@ module _ (E : Engine) (parts : List Part) (d : List ℕ) (size gap : ℕ) (L : L
     filled : Filled ms σ₁ (E .after (E .last σ) f) (q₁ ∷ [])
     unfolding came clock Clock
     filled = filling ms σ₁ (E .after (E .last σ) f) (q₁ ∷ []) (unfold σ₁ in (L .good σ f G (al f (inl refl)))) (after-first .1)
-        (Clock-left ms (c ∷ []) (E .last σ₁) clock₁)
-        (omega (arith, time₁, (Clock-right ms (c ∷ []) (E .last σ₁) clock₁) .0))
-        (λ p m. cut p (In-right p (E .comes f) (came E (ms ++ (c ∷ []))) (came-left ms (c ∷ []) p m)))
+        (Clock-left E ms (c ∷ []) (E .last σ₁) clock₁)
+        (omega (arith, time₁, (Clock-right E ms (c ∷ []) (E .last σ₁) clock₁) .0))
+        (λ p m. cut p (In-right p (E .comes f) (came E (ms ++ (c ∷ []))) (rw (came-append E ms (c ∷ [])) (In-left p (came E ms) (came E (c ∷ [])) m))))
         (λ C₁. nc (covers-by size (came E ms ++ (q₁ ∷ [])) (came E (f ∷ ms)) to-mid C₁))
         (λ x m. al x (inr (In-left x ms (c ∷ []) m)))
 
@@ -405,7 +379,7 @@ module _ (E : Engine) (parts : List Part) (d : List ℕ) (size gap : ℕ) (L : L
 
     le₂ : E .last (runs E σ₁ ms) ≤ E .after (E .last (runs E σ₁ ms)) c
     unfolding Clock
-    le₂ = rw last-time ((Clock-right ms (c ∷ []) (E .last σ₁) clock₁) .0)
+    le₂ = rw last-time ((Clock-right E ms (c ∷ []) (E .last σ₁) clock₁) .0)
 
     time₂ : E .after (E .last (runs E σ₁ ms)) c < E .after (E .last σ) f + gap
     unfolding clock
@@ -429,7 +403,7 @@ module _ (E : Engine) (parts : List Part) (d : List ℕ) (size gap : ℕ) (L : L
 
         go : In p (E .comes f) ⊎ In p (came E (ms ++ (c ∷ []))) → In p (E .comes f ++ came E ms) ⊎ In p (E .comes c)
         go (inl h) = inl (In-left p (E .comes f) (came E ms) h)
-        go (inr h) = go₁ (came-cases ms (c ∷ []) p h)
+        go (inr h) = go₁ (In-cases p (came E ms) (came E (c ∷ [])) (rw (came-append E ms (c ∷ [])) at h))
 
     last-call : E .reply (runs E σ₁ ms) c ≡ out d
     unfolding came
@@ -442,7 +416,7 @@ module _ (E : Engine) (parts : List Part) (d : List ℕ) (size gap : ℕ) (L : L
             pick p (inl h) = h
             pick p (inr h) = let z : In p [] = rw e at h in absurd z
         go (inr w) = L .done (runs E σ₁ ms) c (E .after (E .last σ) f) (filled .held) (w .0) (filled .good) (filled .fills) le₂ time₂ (w .1)
-            (cut (w .0) (In-right (w .0) (E .comes f) (came E (ms ++ (c ∷ []))) (came-right ms (c ∷ []) (w .0) brings-q)))
+            (cut (w .0) (In-right (w .0) (E .comes f) (came E (ms ++ (c ∷ []))) (rw (came-append E ms (c ∷ [])) (In-right (w .0) (came E ms) (came E (c ∷ [])) brings-q))))
             (λ C₁. nc (covers-by size (filled .held) (came E (f ∷ ms)) (λ p m. to-mid p (filled .down p m)) C₁))
             (covers-by size (came E (f ∷ (ms ++ (c ∷ [])))) (w .0 ∷ filled .held) (λ p m. pick p (whole-cases p m)) C)
           where

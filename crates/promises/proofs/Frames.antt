@@ -1,10 +1,10 @@
--- Demand 3 over frames: runs of the public call `receive`, by the theorem on runs of calls (Theorem.antt).
+-- Demand 3 over frames: runs of the public call `receive`, by the theorem on runs of calls (proofs/Runs.antt).
 use Prim.Native.Nat.{ℕ, _+_, _≤_}
 use native.Mathlib.Omega.{arith}
 use mathlib.Core.Path.{_≡_, refl, sym, ap, _∙_}
 use mathlib.Core.Logic.{_⊎_, inl, inr}
 use mathlib.Core.Bool.{true}
-use mathlib.Core.List.{List, [], _∷_, _++_, map, map-append}
+use mathlib.Core.List.{List, [], _∷_, _++_, map, map-append, append-nil}
 use lib.ListN.{length, drop}
 use Rattle.octets.specs.Read.{is}
 use Rattle.octets.proofs.Puts.{put-front}
@@ -23,9 +23,9 @@ use Rattle.promises.specs.Runs.{came, AllKept, MadeOf}
 use Rattle.promises.specs.Runs as Calls
 use Rattle.promises.specs.Frames.{Turn, left, callIn, Ran, endOf, openings, endings, Forward, meant, Brings, partsOf, takenOf, Supposed, Concluded, HandedOut}
 use Rattle.promises.proofs.Fits.{fit}
-use Rattle.promises.proofs.Engine.{covers-by, In-left, In-right, In-cases}
+use Rattle.promises.proofs.Engine.{In-left}
 use Rattle.receiver.proofs.Names.{call-after, call-part, call-room, call-memory}
-use Rattle.promises.proofs.Theorem as Theorem
+use Rattle.promises.proofs.Runs as Runs
 
 -- ---- a run of `receive` is a run of calls
 
@@ -142,47 +142,19 @@ module _ (gs : List Node) (m : List ℕ) (k : Key) where
           one (inl z) = (h, inl refl, rw z e)
           one (inr j) = let w = ih j in (w .0, inr (w .1), w .2)
 
-  came-early : (hs js : List Turn) (p : Part) → In p (came k (map (meant gs m) (hs ++ js))) → (In p (came k (map (meant gs m) hs)) ⊎ In p (came k (map (meant gs m) js)))
-  unfolding came
-  came-early [] js p i = inr i
-  came-early (h ∷ hs) js p i = go (In-cases p (comes k (meant gs m h)) (came k (map (meant gs m) (hs ++ js))) i) (λ j. came-early hs js p j)
-    where
-      go : In p (comes k (meant gs m h)) ⊎ In p (came k (map (meant gs m) (hs ++ js)))
-          → (In p (came k (map (meant gs m) (hs ++ js))) → In p (came k (map (meant gs m) hs)) ⊎ In p (came k (map (meant gs m) js)))
-          → In p (comes k (meant gs m h) ++ came k (map (meant gs m) hs)) ⊎ In p (came k (map (meant gs m) js))
-      go (inl j) ih = inl (In-left p (comes k (meant gs m h)) (came k (map (meant gs m) hs)) j)
-      go (inr j) ih = next′ (ih j)
-        where
-          next′ : In p (came k (map (meant gs m) hs)) ⊎ In p (came k (map (meant gs m) js))
-              → In p (comes k (meant gs m h) ++ came k (map (meant gs m) hs)) ⊎ In p (came k (map (meant gs m) js))
-          next′ (inl z) = inl (In-right p (comes k (meant gs m h)) (came k (map (meant gs m) hs)) z)
-          next′ (inr z) = inr z
-
   -- the call that covers brings a part
   covering-brings : (mid : List Turn) (c : Turn) → Covers (k .size) (came k (map (meant gs m) (mid ++ (c ∷ [])))) → (Covers (k .size) (came k (map (meant gs m) mid)) → ⊥)
       → (q : Part) × (comes k (meant gs m c) ≡ q ∷ [])
+  unfolding came
   covering-brings mid c C nc = go (comes-one k (meant gs m c))
     where
-      none : comes k (meant gs m c) ≡ [] → (p : Part) → In p (came k (map (meant gs m) (mid ++ (c ∷ [])))) → In p (came k (map (meant gs m) mid))
-      none e p i = pick (came-early mid (c ∷ []) p i)
-        where
-          nothing : In p (came k (map (meant gs m) (c ∷ []))) → In p (came k (map (meant gs m) mid))
-          nothing j = let w = came-in (c ∷ []) p j in absurd (no-part (w .0) (w .1) (w .2))
-            where
-              no-part : (x : Turn) → In x (c ∷ []) → comes k (meant gs m x) ≡ p ∷ [] → ⊥
-              no-part x (inl z) y =
-                  let f : comes k (meant gs m c) ≡ p ∷ [] = rw (← z) y in
-                  let g : _≡_ {A = List Part} [] (p ∷ []) = sym e ∙ f in
-                  let n : _≡_ {A = ℕ} 0 1 = cc in
-                  omega arith
-              no-part x (inr z) y = z
-
-          pick : In p (came k (map (meant gs m) mid)) ⊎ In p (came k (map (meant gs m) (c ∷ []))) → In p (came k (map (meant gs m) mid))
-          pick (inl z) = z
-          pick (inr z) = nothing z
+      nothing-new : comes k (meant gs m c) ≡ [] → came k (map (meant gs m) (mid ++ (c ∷ []))) ≡ came k (map (meant gs m) mid)
+      nothing-new e =
+          ap (came k) (map-append (meant gs m) mid (c ∷ [])) ∙ Runs.came-append k (map (meant gs m) mid) (meant gs m c ∷ [])
+          ∙ rw e (append-nil (came k (map (meant gs m) mid)))
 
       go : (comes k (meant gs m c) ≡ []) ⊎ ((q : Part) × (comes k (meant gs m c) ≡ q ∷ [])) → (q : Part) × (comes k (meant gs m c) ≡ q ∷ [])
-      go (inl e) = absurd (nc (covers-by (k .size) (came k (map (meant gs m) (mid ++ (c ∷ [])))) (came k (map (meant gs m) mid)) (none e) C))
+      go (inl e) = absurd (nc (rw (nothing-new e) at C))
       go (inr w) = w
 
 -- ---- what a reply says of the answer and the output
@@ -293,7 +265,7 @@ module _ (gs : List Node) (m : List ℕ) (k : Key) (d : List ℕ) (C : Cutting k
   pub as-calls : held (owner k) (run (begun gs m) (map (meant gs m) past) .table .slots) ≡ 0
       → (p : Part) × (meant gs m c ≡ part (c .time) p) × Calls.Concluded (run (begun gs m) (map (meant gs m) past)) k d (map (meant gs m) mid) (c .time) p
   unfolding calls
-  as-calls z = (q, q-brought, Theorem.demand-3 gs m k d C (calls past) (calls mid) (c .time) q supposed z)
+  as-calls z = (q, q-brought, Runs.demand-3 gs m k d C (calls past) (calls mid) (c .time) q supposed z)
 
   module _ (R : Ran (begun gs m) (past ++ (mid ++ (c ∷ [])))) where
     -- the table and the memory when the earliest part comes, and when the covering call does
@@ -358,11 +330,11 @@ module _ (gs : List Node) (m : List ℕ) (k : Key) (d : List ℕ) (C : Cutting k
     -- old, the key is not open and the opening rule lets its gateway open a slot
     pub demand-3-ready : Ready k (endOf (begun gs m) past) (H .first .time) → Concluded k d mid c
     unfolding supposed
-    demand-3-ready r = from-calls (Theorem.demand-3-ready gs m k d C (calls past) (calls mid) (c .time) q supposed (rw (← σ₁-is) r))
+    demand-3-ready r = from-calls (Runs.demand-3-ready gs m k d C (calls past) (calls mid) (c .time) q supposed (rw (← σ₁-is) r))
 
     -- DEMAND 3: "if a gateway holds no slot when the earliest part of a datagram comes, [..]"
     pub demand-3 : held (owner k) (endOf (begun gs m) past .table .slots) ≡ 0 → Concluded k d mid c
-    demand-3 z = from-calls (Theorem.demand-3 gs m k d C (calls past) (calls mid) (c .time) q supposed (rw (← σ₁-is) z))
+    demand-3 z = from-calls (Runs.demand-3 gs m k d C (calls past) (calls mid) (c .time) q supposed (rw (← σ₁-is) z))
 
 -- ---- companions, over every run from a fresh table; a run up to any moment is a run (`ran-left`)
 
@@ -408,7 +380,7 @@ module _ (gs : List Node) (m : List ℕ) (W : Gateways gs) (room : 16384 ≤ len
       let t : out n ≡ told ((step σ (meant gs m h)) .reply) = sym (ap ofOutcome a) ∙ answer-is gs m σ h [] F₁ R₂ in
       let D = out-told n ((step σ (meant gs m h)) .reply) t in
       let e : (step (run (begun gs m) (map (meant gs m) hs)) (part (h .time) p)) .reply ≡ out (D .0) = rw (← σ-is, ← b) (D .1) in
-      let M = Theorem.never-meet gs m W room (map (meant gs m) hs) (h .time) p (D .0) e in
+      let M = Runs.never-meet gs m W room (map (meant gs m) hs) (h .time) p (D .0) e in
       let w : map (meant gs m) (hs ++ (h ∷ [])) ≡ map (meant gs m) hs ++ (part (h .time) p ∷ []) =
       map-append (meant gs m) hs (h ∷ []) ∙ ap (λ (x : Call). map (meant gs m) hs ++ (x ∷ [])) b in
       let l : length (D .0) ≤ length (h .before) = omega (arith, made-small _ _ (D .0) M, call-room m (h .before) gs (h .contexts) (h .time) (h .frame) (h .time) p b) in

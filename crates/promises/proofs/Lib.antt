@@ -5,7 +5,7 @@ pub mod Filling
 pub mod Engine
 pub mod Instance
 pub mod Origin
-pub mod Theorem
+pub mod Runs
 pub mod Frames
 pub mod TwoParts
 pub mod Worked

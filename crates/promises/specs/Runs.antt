@@ -29,7 +29,7 @@ AllKept k σ [] = Unit {0}
 AllKept k σ (c ∷ cs) = ((p : Part) → comes k c ≡ p ∷ [] → (step σ c) .reply ≡ kept) × AllKept k (next σ c) cs
 
 -- What demand 3 supposes. `past` is what came before the earliest part, `mid` what came from it on and before the covering call, and the
--- covering call brings q at t. One premise stands apart (proofs/Theorem.antt), "a gateway holds no slot when the earliest part [..] comes": less
+-- covering call brings q at t. One premise stands apart (proofs/Runs.antt), "a gateway holds no slot when the earliest part [..] comes": less
 -- suffices, `Ready` at the time of the earliest part.
 pub record Supposed (gs : List Node) (m : List ℕ) (k : Key) (d : List ℕ) (C : Cutting k d) (past mid : List Call) (t : ℕ) (q : Part) : Type 0 where
   -- "From a fresh table with fixed gateways": the run begins at `begun gs m`, and no call changes the gateways;

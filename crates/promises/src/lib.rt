@@ -5,7 +5,7 @@
 //   it concludes; proofs/Frames.antt proves it (`demand-3`) and its companions (`at-most-three`, `never-meet`,
 //   `eight-slots`). proofs/Witness.antt meets the premises in bytes, with the frames of proofs/Worked.antt.
 // - It rests on demand 3 over runs of calls of the slot table: specs/Cuttings.antt (a cutting of a datagram) and
-//   specs/Runs.antt, proofs/Theorem.antt. That is proved of any engine that meets the laws of proofs/Engine.antt, which
+//   specs/Runs.antt, proofs/Runs.antt. That is proved of any engine that meets the laws of proofs/Engine.antt, which
 //   know neither frames nor marks. The slot table is one: proofs/Instance.antt, by proofs/Filling.antt and
 //   proofs/OneSlot.antt on one slot.
 // - proofs/Origin.antt: where the bytes of a datagram that is handed out come from.

@@ -1,6 +1,6 @@
 -- Demand 3 over runs of calls: the main theorem (Engine.antt, at Instance.antt) and its companions.
 use Prim.Native.Nat.{ℕ, _+_, _*_, _-_, _≤_, _<_}
-use mathlib.Core.Path.{_≡_, refl, ap, _∙_}
+use mathlib.Core.Path.{_≡_, refl, sym, ap, ap₂, _∙_}
 use mathlib.Core.Logic.{_⊎_}
 use mathlib.Core.Bool.{true}
 use mathlib.Core.List.{List, [], _∷_, _++_}
@@ -31,6 +31,9 @@ module _ (k : Key) where
   unfolding Engine.came came
   came-is [] = refl
   came-is (c ∷ cs) = ap (λ (ps : List Part). comes k c ++ ps) (came-is cs)
+
+  pub came-append : (cs ds : List Call) → came k (cs ++ ds) ≡ came k cs ++ came k ds
+  came-append cs ds = sym (came-is (cs ++ ds)) ∙ Engine.came-append (engine k) cs ds ∙ ap₂ (λ (ps qs : List Part). ps ++ qs) (came-is cs) (came-is ds)
 
   clock-is : (cs : List Call) (n : ℕ) → Forward n cs → Engine.Clock (engine k) n cs
   unfolding Engine.Clock Forward
@@ -76,11 +79,11 @@ module _ (gs : List Node) (m : List ℕ) (k : Key) (d : List ℕ) (C : Cutting k
   last-is =
       let e : Engine.runs (engine k) (begun gs m) past .table .last ≡ Engine.clock (engine k) (begun gs m .table .last) past =
       Engine.runs-last (engine k) (C .parts) d (k .size) 60000 (laws k d C) past (begun gs m) fine₀
-      (Engine.Clock-left (engine k) (C .parts) d (k .size) 60000 (laws k d C) past window 0 clock) (λ x y. tt) in
+      (Engine.Clock-left (engine k) past window 0 clock) (λ x y. tt) in
       rw (run-is k past (begun gs m)) at e
 
   forward : Engine.Clock (engine k) (σ .table .last) window
-  forward = rw last-is (Engine.Clock-right (engine k) (C .parts) d (k .size) 60000 (laws k d C) past window 0 clock)
+  forward = rw last-is (Engine.Clock-right (engine k) past window 0 clock)
 
   starts : Engine.Starts (engine k) (C .parts) d (k .size) 60000 (laws k d C) σ window
   unfolding Engine.Starts laws σ window
