@@ -1,7 +1,8 @@
 -- A part and one slot: what the functions on one slot do, answer by answer.
-use Prim.Native.Nat.{ℕ, _+_, _*_, _≤_, _<_}
+use Prim.Native.Nat.{ℕ, _+_, _*_, _-_, _≤_, _<_}
+use native.Mathlib.Nat.{sub-zero}
 use mathlib.Core.Path.{_≡_, refl, sym, ap, _∙_}
-use mathlib.Core.Bool.{Bool, true, false}
+use mathlib.Core.Bool.{Bool, true, false, not}
 use mathlib.Core.List.{List, _++_}
 use lib.ListN.{length, take, drop}
 use lib.Seq.{length-take-le}
@@ -9,6 +10,7 @@ use lib.Dec.{leb}
 use borrow.Author.Tests.{le-leb, lt-leb}
 use native.Mathlib.Omega.{arith}
 use Rattle.octets.specs.Write.{put}
+use Rattle.marks.specs.Marks.{hasIn, unpack}
 use Rattle.octets.proofs.Puts.{put-front}
 use Rattle.expand.specs.Sum.{summed, summedIn}
 use Rattle.expand.proofs.CopyLaws.{length-put}
@@ -16,7 +18,7 @@ use Rattle.expand.proofs.SumLaws.{too-short, summed-front}
 use Rattle.expand.proofs.ExpandLaws.{length-summed}
 use Rattle.octets.specs.declared.refusal.Refusal.{Refusal}
 use Rattle.reassembly.specs.Slots.{freeSlot}
-use Rattle.reassembly.specs.Parts.{Part, partOf, Reply, kept, out, refused, repeats, touches, takenIn, taken, written, full, finish, Put, place, offer, Does}
+use Rattle.reassembly.specs.Parts.{Part, partOf, Reply, kept, out, refused, repeats, touches, takenIn, taken, written, units, full, finish, Put, place, offer, Does}
 use Rattle.reassembly.proofs.Tests.{by-test, by-order}
 use Rattle.reassembly.specs.declared.slot.Key.{Key}
 use Rattle.reassembly.specs.declared.slot.Slot.{Slot}
@@ -111,3 +113,8 @@ unfolding offer
 offer-length s b p = by-test (repeats s b p)
     (λ e. rw e)
     (λ e. by-test (touches s p) (λ c. rw (e, c)) (λ c. rw (e, c) (place-length s b p)))
+
+-- full, by the test that finds no unit without its mark
+pub full-is : (s : Slot) (j : ℕ) (r : Bool) → j ≡ units (s .key .size) → r ≡ hasIn false (unpack (s .covered)) 0 (j - 0) → not r ≡ full s
+unfolding full
+full-is s j r e h = ap not (h ∙ ap (λ k. hasIn false (unpack (s .covered)) 0 k) (sub-zero j ∙ e))
