@@ -1,8 +1,9 @@
 -- A part and one slot: what the functions on one slot do, answer by answer.
-use Prim.Native.Nat.{ℕ, _+_, _*_, _≤_, _<_}
+use Prim.Native.Nat.{ℕ, _+_, _*_, _-_, _≤_, _<_}
+use native.Mathlib.Nat.{sub-zero}
 use mathlib.Core.Path.{_≡_, refl, sym, ap, _∙_}
 use mathlib.Core.Logic.{_⊎_, inl, inr}
-use mathlib.Core.Bool.{Bool, true, false}
+use mathlib.Core.Bool.{Bool, true, false, not}
 use mathlib.Core.List.{List, _++_}
 use lib.ListN.{length, getD, take, drop}
 use lib.Seq.{length-take-le}
@@ -10,6 +11,7 @@ use lib.Dec.{leb}
 use borrow.Author.Tests.{le-leb, lt-leb, leb-true}
 use native.Mathlib.Omega.{arith}
 use Rattle.octets.specs.Write.{put, be16Bytes}
+use Rattle.marks.specs.Marks.{hasIn, unpack}
 use Rattle.octets.proofs.Puts.{put-front}
 use Rattle.expand.specs.Sum.{udpChecksum, summed, summedIn}
 use Rattle.expand.proofs.CopyLaws.{length-put}
@@ -17,7 +19,7 @@ use Rattle.expand.proofs.SumLaws.{too-short, summed-front}
 use Rattle.expand.proofs.ExpandLaws.{length-summed}
 use Rattle.octets.specs.declared.refusal.Refusal.{Refusal}
 use Rattle.reassembly.specs.Slots.{freeSlot}
-use Rattle.reassembly.specs.Parts.{Part, partOf, Reply, kept, out, refused, repeats, touches, takenIn, taken, written, full, finish, Put, place, offer, Does}
+use Rattle.reassembly.specs.Parts.{Part, partOf, Reply, kept, out, refused, repeats, touches, takenIn, taken, written, units, full, finish, Put, place, offer, Does}
 use Rattle.reassembly.proofs.Tests.{by-test, by-order}
 use Rattle.reassembly.proofs.Lists.{getD-sets-before, getD-sets-after, put-sets}
 use Rattle.reassembly.specs.declared.slot.Key.{Key}
@@ -124,3 +126,8 @@ unfolding offer
 offer-length s b p = by-test (repeats s b p)
     (λ e. rw e)
     (λ e. by-test (touches s p) (λ c. rw (e, c)) (λ c. rw (e, c) (place-length s b p)))
+
+-- full, by the test that finds no unit without its mark
+pub full-is : (s : Slot) (j : ℕ) (r : Bool) → j ≡ units (s .key .size) → r ≡ hasIn false (unpack (s .covered)) 0 (j - 0) → not r ≡ full s
+unfolding full
+full-is s j r e h = ap not (h ∙ ap (λ k. hasIn false (unpack (s .covered)) 0 k) (sub-zero j ∙ e))
