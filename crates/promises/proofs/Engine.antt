@@ -7,7 +7,7 @@ use mathlib.Core.Path.{_≡_, refl, sym, ap, _∙_}
 use mathlib.Core.Logic.{_⊎_, inl, inr}
 use mathlib.Core.List.{List, [], _∷_, _++_, append-assoc}
 use Rattle.reassembly.specs.Parts.{Part, Reply, kept, out}
-use Rattle.promises.specs.Cuttings.{In, Covers}
+use Rattle.reassembly.specs.Cover.{In, Covers}
 
 -- An engine: its states and calls, what a call does and replys, the clock after a call, and what a call brings under one key.
 pub record Engine : Type 1 where

@@ -7,15 +7,19 @@ use mathlib.Core.Logic.{inl, inr}
 use mathlib.Core.Bool.{Bool, true, false}
 use mathlib.Core.List.{List, [], _∷_}
 use lib.ListN.{length, set, take, length-set}
+use lib.Dec.{eqb}
 use lib.Seq.{ext-getD, getD-take, length-take-le}
 use Rattle.reassembly.specs.Slots.{busy, opened}
-use Rattle.reassembly.specs.Parts.{Part, kept, out, repeats, touches, takenIn, taken, written, full, finish, place, offer}
+use Rattle.reassembly.specs.Parts.{Part, kept, out, repeats, touches, taken, written, full, finish, place, offer}
 use Rattle.reassembly.specs.declared.slot.Key.{Key}
 use Rattle.reassembly.specs.declared.slot.Slot.{Slot}
+use Rattle.reassembly.proofs.Parts as Parts
+use Rattle.reassembly.proofs.Parts.{taken-stays, place-kept, offer-repeat, offer-clear}
 use Rattle.reassembly.proofs.Tests.{no-both, by-test, not-true-false}
-use Rattle.promises.specs.Cuttings.{In, Has, Covers, zeroed, Cutting}
-use Rattle.promises.proofs.Fits.{fit}
-use Rattle.promises.proofs.OneSlot.{Holds, holds-nothing, taken→repeats, repeats→taken, touches→shared, again, taking, full→covers, covers→full}
+use Rattle.reassembly.specs.Cover.{In, Has, Covers}
+use Rattle.promises.specs.Cuttings.{zeroed, Cutting}
+use Rattle.reassembly.proofs.Fits.{fit}
+use Rattle.reassembly.proofs.OneSlot.{Holds, holds-nothing, opened-as, taken→repeats, repeats→taken, touches→shared, again, taking, full→covers, covers→full}
 
 pub length-zeroed : (e : Bool) (d : List ℕ) → length (zeroed e d) ≡ length d
 unfolding zeroed
@@ -34,8 +38,7 @@ module _ (k : Key) (d : List ℕ) (C : Cutting k d) where
 
   -- an opened slot holds nothing yet
   pub start : (t : ℕ) (b : List ℕ) → length b ≡ 2048 → Progress t [] (opened k t) b
-  unfolding opened
-  start t b h = record { busy = refl; key = refl; since = refl; holds = holds-nothing k t b h; mine = λ p m. absurd m }
+  start t b h = let O = opened-as k t in record { busy = O .0; key = O .1; since = O .2; holds = holds-nothing k t b h; mine = λ p m. absurd m }
 
   module _ (t : ℕ) (ps : List Part) (s : Slot) (b : List ℕ) (P : Progress t ps s b) where
     -- a part of the cutting that is known again came
@@ -60,11 +63,10 @@ module _ (k : Key) (d : List ℕ) (C : Cutting k d) where
         no-both (repeats s b q) (taken→repeats k ps s b (P .holds) q came) e)
 
     pub took : (q : Part) → In q (C .parts) → touches s q ≡ false → Progress t (q ∷ ps) (taken s q) (written b q)
-    unfolding takenIn
     took q m clear = record {
-      busy = P .busy;
-      key = P .key;
-      since = P .since;
+      busy = ap (λ (n : ℕ). eqb n 1) (taken-stays s q .0) ∙ P .busy;
+      key = taken-stays s q .1 ∙ P .key;
+      since = taken-stays s q .2 ∙ P .since;
       holds = taking k ps s b (P .holds) q (C .keyed q m) (C .pass10 q m) clear;
       mine = mine′;
     }
@@ -107,42 +109,38 @@ module _ (k : Key) (d : List ℕ) (C : Cutting k d) where
 
     pub place-keeps : (q : Part) → In q (C .parts) → touches s q ≡ false → (Covers (k .size) (q ∷ ps) → ⊥)
         → ((place s b q) .reply ≡ kept) × Progress t (q ∷ ps) ((place s b q) .slot) ((place s b q) .bytes)
-    unfolding place
     place-keeps q m clear nc =
         let P′ = took q m clear in
         let e : full (taken s q) ≡ false = not-true-false (full (taken s q))
         (λ h. nc (full→covers k (q ∷ ps) (taken s q) (written b q) (P′ .holds) (P′ .key) h)) in
-        rw e (refl, P′)
+        rw (place-kept s b q e) (refl, P′)
 
-    pub place-full : (q : Part) → In q (C .parts) → touches s q ≡ false → Covers (k .size) (q ∷ ps) → full (taken s q) ≡ true
-    place-full q m clear c =
+    fills : (q : Part) → In q (C .parts) → touches s q ≡ false → Covers (k .size) (q ∷ ps) → full (taken s q) ≡ true
+    fills q m clear c =
         let P′ = took q m clear in
         covers→full k (q ∷ ps) (taken s q) (written b q) (P′ .holds) (P′ .key) c
 
   pub place-hands-out : (t : ℕ) (ps : List Part) (s : Slot) (b : List ℕ) → Progress t ps s b → (q : Part) → In q (C .parts) → touches s q ≡ false
       → Covers (k .size) (q ∷ ps) → (place s b q) .reply ≡ out d
-  unfolding place
   place-hands-out t ps s b P q m clear c =
       let P′ = took t ps s b P q m clear in
       let f = fit q (C .pass10 q m) in
       let z : q .key .size ≡ k .size = ap (λ (y : Key). y .size) (C .keyed q m) in
-      rw (place-full t ps s b P q m clear c)
+      rw (Parts.place-full s b q (fills t ps s b P q m clear c))
       (ap out (whole t (q ∷ ps) (taken s q) (written b q) P′ c (omega (arith, f .big)) (omega (arith, f .small))))
 
   pub offer-keeps : (t : ℕ) (ps : List Part) (s : Slot) (b : List ℕ) → Progress t ps s b → (q : Part) → In q (C .parts)
       → (Covers (k .size) (q ∷ ps) → ⊥)
       → ((offer s b q) .reply ≡ kept) × Progress t (q ∷ ps) ((offer s b q) .slot) ((offer s b q) .bytes)
-  unfolding offer
   offer-keeps t ps s b P q m nc = by-test (repeats s b q)
-      (λ e. rw e (refl, same-again t ps s b P q (repeats→came t ps s b P q m e)))
-      (λ e. let c = apart-new t ps s b P q m e in rw (e, c) (place-keeps t ps s b P q m c nc))
+      (λ e. rw (offer-repeat s b q e) (refl, same-again t ps s b P q (repeats→came t ps s b P q m e)))
+      (λ e. let c = apart-new t ps s b P q m e in rw (offer-clear s b q e c) (place-keeps t ps s b P q m c nc))
 
   pub offer-hands-out : (t : ℕ) (ps : List Part) (s : Slot) (b : List ℕ) → Progress t ps s b → (q : Part) → In q (C .parts)
       → (Covers (k .size) ps → ⊥) → Covers (k .size) (q ∷ ps) → (offer s b q) .reply ≡ out d
-  unfolding offer
   offer-hands-out t ps s b P q m nc c = by-test (repeats s b q)
       (λ e. absurd (nc (λ x h. let w = c x h in (w .0, old (repeats→came t ps s b P q m e) (w .0) (w .1), w .2))))
-      (λ e. let a = apart-new t ps s b P q m e in rw (e, a) (place-hands-out t ps s b P q m a c))
+      (λ e. let a = apart-new t ps s b P q m e in rw (offer-clear s b q e a) (place-hands-out t ps s b P q m a c))
     where
       old : In q ps → (p : Part) → In p (q ∷ ps) → In p ps
       old h p (inl e) = rw e h

@@ -10,7 +10,7 @@ use Rattle.octets.specs.Read.{is}
 use Rattle.octets.proofs.Puts.{put-front}
 use Rattle.reassembly.specs.Slots.{owner, gatesOf, isGate, held, free}
 use Rattle.reassembly.specs.Parts.{Part, Reply, kept, out, refused, told, ofOutcome, outputAfter}
-use Rattle.reassembly.specs.Table.{Call, part, State, step, after, Ready, comes, next, run, opensIn, endsIn, note, takenSince}
+use Rattle.reassembly.specs.Table.{Call, part, State, step, after, Ready, comes, next, run, opensIn, endsIn}
 use Rattle.reassembly.specs.Fresh.{Gateways, begun}
 use Rattle.reassembly.specs.declared.slot.Node.{Node}
 use Rattle.reassembly.specs.declared.slot.Key.{Key}
@@ -18,11 +18,13 @@ use Rattle.reassembly.specs.declared.part.Outcome.{Outcome}
 use Rattle.reassembly.proofs.Parts.{length-finish}
 use Rattle.reassembly.proofs.Runs.{Good, step-did, did-good, did-gates, did-length, gates-fresh, fresh-good, comes-one, comes-brought, comes-part}
 use Rattle.reassembly.proofs.Promises.{three, tally, outcome-one}
-use Rattle.promises.specs.Cuttings.{In, Covers, Cutting}
-use Rattle.promises.specs.Runs.{came, AllKept, MadeOf}
+use Rattle.reassembly.proofs.Promises as Table
+use Rattle.reassembly.specs.Cover.{In, Covers, MadeOf}
+use Rattle.promises.specs.Cuttings.{Cutting}
+use Rattle.promises.specs.Runs.{came, AllKept}
 use Rattle.promises.specs.Runs as Calls
 use Rattle.promises.specs.Frames.{Turn, left, callIn, Ran, endOf, openings, endings, Forward, meant, Brings, partsOf, takenOf, Supposed, Concluded, HandedOut}
-use Rattle.promises.proofs.Fits.{fit}
+use Rattle.reassembly.proofs.Fits.{fit}
 use Rattle.promises.proofs.Engine.{In-left}
 use Rattle.receiver.proofs.Names.{call-after, call-part, call-room, call-memory}
 use Rattle.promises.proofs.Runs as Runs
@@ -338,12 +340,6 @@ module _ (gs : List Node) (m : List ℕ) (k : Key) (d : List ℕ) (C : Cutting k
 
 -- ---- companions, over every run from a fresh table; a run up to any moment is a run (`ran-left`)
 
-taken-snoc : (k : Key) (cs : List Call) (c : Call) (σ : State) (h : List Part)
-    → takenSince k σ (cs ++ (c ∷ [])) h ≡ note k c (step (run σ cs) c) (takenSince k σ cs h)
-unfolding takenSince run
-taken-snoc k [] c σ h = refl
-taken-snoc k (x ∷ cs) c σ h = taken-snoc k cs c (next σ x) (note k x (step σ x) h)
-
 made-small : (k : Key) (ps : List Part) (d : List ℕ) → MadeOf k ps d → length d ≤ 2047
 made-small k ps d M = omega (arith, ap length (M .made), length-finish (M .elided) (M .d₀), M .sized, M .bounded)
 
@@ -380,7 +376,7 @@ module _ (gs : List Node) (m : List ℕ) (W : Gateways gs) (room : 16384 ≤ len
       let t : out n ≡ told ((step σ (meant gs m h)) .reply) = sym (ap ofOutcome a) ∙ answer-is gs m σ h [] F₁ R₂ in
       let D = out-told n ((step σ (meant gs m h)) .reply) t in
       let e : (step (run (begun gs m) (map (meant gs m) hs)) (part (h .time) p)) .reply ≡ out (D .0) = rw (← σ-is, ← b) (D .1) in
-      let M = Runs.never-meet gs m W room (map (meant gs m) hs) (h .time) p (D .0) e in
+      let M = Table.never-meet gs m W room (map (meant gs m) hs) (h .time) p (D .0) e in
       let w : map (meant gs m) (hs ++ (h ∷ [])) ≡ map (meant gs m) hs ++ (part (h .time) p ∷ []) =
       map-append (meant gs m) hs (h ∷ []) ∙ ap (λ (x : Call). map (meant gs m) hs ++ (x ∷ [])) b in
       let l : length (D .0) ≤ length (h .before) = omega (arith, made-small _ _ (D .0) M, call-room m (h .before) gs (h .contexts) (h .time) (h .frame) (h .time) p b) in
@@ -389,7 +385,7 @@ module _ (gs : List Node) (m : List ℕ) (W : Gateways gs) (room : 16384 ≤ len
         datagram = D .0;
         length-is = D .2;
         output = O .1 ∙ ap (λ (x : ℕ). D .0 ++ drop x (h .before)) (D .2);
-        made = rw (w, taken-snoc (p .key) (map (meant gs m) hs) (part (h .time) p) (begun gs m) []) M;
+        made = rw w M;
       }
     where
       out-told : (n : ℕ) (r : Reply (List ℕ)) → out n ≡ told r → (d : List ℕ) × (r ≡ out d) × (length d ≡ n)

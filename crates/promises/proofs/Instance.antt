@@ -11,8 +11,9 @@ use Rattle.reassembly.specs.declared.slot.Key.{Key}
 use Rattle.reassembly.specs.declared.slot.Slot.{Slot}
 use Rattle.reassembly.proofs.Gateways.{isKey-of}
 use Rattle.reassembly.proofs.Runs.{Good, step-did, did-good, did-gates, did-last, did-other, Holding, Comes, own-offered, own-opens, at-after, comes-one, Brought, comes-brought}
-use Rattle.promises.specs.Cuttings.{In, Covers, Cutting}
-use Rattle.promises.proofs.OneSlot.{opened-clear}
+use Rattle.reassembly.specs.Cover.{In, Covers}
+use Rattle.promises.specs.Cuttings.{Cutting}
+use Rattle.reassembly.proofs.OneSlot.{opened-clear}
 use Rattle.promises.proofs.Filling.{Progress, start, place-keeps, place-hands-out, offer-keeps, offer-hands-out}
 use Rattle.promises.proofs.Engine.{Engine, Laws}
 

@@ -1,10 +1,7 @@
 pub mod Marked
-pub mod Fits
-pub mod OneSlot
 pub mod Filling
 pub mod Engine
 pub mod Instance
-pub mod Origin
 pub mod Runs
 pub mod Frames
 pub mod TwoParts

@@ -1,23 +1,19 @@
 -- Demand 3 over runs of calls: the main theorem (Engine.antt, at Instance.antt) and its companions.
-use Prim.Native.Nat.{ℕ, _+_, _*_, _-_, _≤_, _<_}
+use Prim.Native.Nat.{ℕ, _+_, _<_}
 use mathlib.Core.Path.{_≡_, refl, sym, ap, ap₂, _∙_}
-use mathlib.Core.Logic.{_⊎_}
 use mathlib.Core.Bool.{true}
 use mathlib.Core.List.{List, [], _∷_, _++_}
-use lib.ListN.{length, getD}
 use Rattle.reassembly.specs.Slots.{owner, gatesOf, isGate, held}
-use Rattle.reassembly.specs.Parts.{Part, out}
-use Rattle.reassembly.specs.Table.{Call, part, State, step, after, Ready, comes, next, run, note, takenSince}
-use Rattle.reassembly.specs.Fresh.{fresh, Gateways, begun}
+use Rattle.reassembly.specs.Parts.{Part}
+use Rattle.reassembly.specs.Table.{Call, part, State, after, Ready, comes, next, run}
+use Rattle.reassembly.specs.Fresh.{fresh, begun}
 use Rattle.reassembly.specs.declared.slot.Node.{Node}
 use Rattle.reassembly.specs.declared.slot.Key.{Key}
-use Rattle.reassembly.proofs.Parts.{finish-byte}
-use Rattle.reassembly.proofs.Runs.{gates-fresh, fresh-good, run-good, run-gates, comes-part, step-did, none-ready, none-before}
-use Rattle.promises.specs.Cuttings.{In, Has, Cutting}
-use Rattle.promises.specs.Runs.{came, Forward, AllKept, Supposed, Concluded, MadeOf}
+use Rattle.reassembly.proofs.Runs.{gates-fresh, fresh-good, run-good, run-gates, comes-part, none-ready, none-before}
+use Rattle.promises.specs.Cuttings.{Cutting}
+use Rattle.promises.specs.Runs.{came, Forward, AllKept, Supposed, Concluded}
 use Rattle.promises.proofs.Engine as Engine
 use Rattle.promises.proofs.Instance.{engine, Fine, laws}
-use Rattle.promises.proofs.Origin.{did-made, run-told, fresh-told}
 
 -- ---- a run of calls is a run of the engine
 
@@ -116,25 +112,3 @@ demand-3 gs m k d C past mid t q H z =
     let gate : isGate (owner k) (gatesOf (σ .table)) ≡ true = rw (run-gates past (begun gs m) G₀, gates-fresh gs (H .gateways)) (H .gate) in
     demand-3-ready gs m k d C past mid t q H
     (none-ready k σ (H .t₀) (run-good past (begun gs m) G₀) gate (none-before (owner k) σ (H .t₀) z))
-
--- ---- where the bytes of a datagram come from (the cap of three slots and the total of openings: `three` and `tally` of
--- reassembly/proofs/Promises.antt)
-
--- "bytes of two such keys never meet in one datagram", in 01's words: "each byte handed out from a slot, a computed checksum aside, is the byte
--- at its place of a part taken under that slot's key since the slot's opening." A part p that makes the table hand out d after the calls cs:
--- d is made of the parts taken under p's key since its slot's opening, p among them.
-pub never-meet : (gs : List Node) (m : List ℕ) → Gateways gs → 16384 ≤ length m → (cs : List Call) (t : ℕ) (p : Part) (d : List ℕ)
-    → (step (run (begun gs m) cs) (part t p)) .reply ≡ out d
-    → MadeOf (p .key) (note (p .key) (part t p) (step (run (begun gs m) cs) (part t p)) (takenSince (p .key) (begun gs m) cs [])) d
-never-meet gs m W h cs t p d a =
-    let G₀ = fresh-good gs m W h in
-    let G = run-good cs (begun gs m) G₀ in
-    did-made (p .key) (run (begun gs m) cs) (takenSince (p .key) (begun gs m) cs []) d G (step-did (run (begun gs m) cs) (part t p) G)
-    (run-told cs (p .key) (begun gs m) [] G₀ (fresh-told gs m (p .key))) refl a
-
--- byte by byte: of a datagram made of the parts hs each byte but a computed checksum's, at 46 and 47, is that of one of them at its place
-pub each-byte : (k : Key) (hs : List Part) (d : List ℕ) (M : MadeOf k hs d) (x : ℕ) → x < k .size → (M .elided ≡ true → (x < 46) ⊎ (48 ≤ x))
-    → (q : Part) × In q hs × (q .key ≡ k) × Has q x × (getD d x 0 ≡ getD (q .bytes) (x - q .unit * 8) 0)
-each-byte k hs d M x h a =
-    let w = M .each x h in
-    (w .0, w .1, w .2, w .3, ap (λ (z : List ℕ). getD z x 0) (M .made) ∙ finish-byte (M .elided) (M .d₀) x a ∙ w .4)

@@ -10,7 +10,8 @@ use lib.Seq.{getD-take, getD-drop, length-take-le}
 use Rattle.reassembly.specs.Parts.{Part, partOf, fits, finish}
 use Rattle.reassembly.specs.declared.slot.Key.{Key}
 use Rattle.reassembly.proofs.Tests.{by-order}
-use Rattle.promises.specs.Cuttings.{In, Has, Covers, zeroed, Cutting}
+use Rattle.reassembly.specs.Cover.{In, Has, Covers}
+use Rattle.promises.specs.Cuttings.{zeroed, Cutting}
 use Rattle.promises.proofs.Filling.{length-zeroed}
 
 -- d in two from unit u on, under k; e: whether its checksum is elided

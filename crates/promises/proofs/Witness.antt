@@ -25,7 +25,8 @@ use Rattle.reassembly.proofs.Fresh.{accepted}
 use Rattle.reassembly.proofs.Runs.{comes-part}
 use Rattle.receiver.specs.Receive.{frameCall, callOf}
 use Rattle.receiver.specs.Names.{named}
-use Rattle.promises.specs.Cuttings.{In, zeroed, Cutting}
+use Rattle.reassembly.specs.Cover.{In}
+use Rattle.promises.specs.Cuttings.{zeroed, Cutting}
 use Rattle.promises.specs.Runs.{came, AllKept}
 use Rattle.promises.specs.Runs as Calls
 use Rattle.promises.specs.Frames.{Turn, callIn, Ran, endOf, Forward, meant, Brings, partsOf, Supposed, Concluded}

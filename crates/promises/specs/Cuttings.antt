@@ -1,26 +1,13 @@
--- A cutting of a datagram (the scope document, "Expansion and the slot table"): the parts that a sender makes of it, and what they cover.
-use Prim.Native.Nat.{ℕ, _+_, _*_, _-_, _≤_, _<_}
+-- A cutting of a datagram (the scope document, "Expansion and the slot table"): the parts that a sender makes of it.
+use Prim.Native.Nat.{ℕ, _*_, _-_}
 use mathlib.Core.Path.{_≡_}
-use mathlib.Core.Logic.{_⊎_}
 use mathlib.Core.Bool.{Bool, true}
-use mathlib.Core.List.{List, [], _∷_}
+use mathlib.Core.List.{List}
 use lib.ListN.{length, getD, set}
 use Rattle.octets.specs.Read.{choose}
 use Rattle.reassembly.specs.Parts.{Part, fits, finish}
+use Rattle.reassembly.specs.Cover.{In, Has, Covers}
 use Rattle.reassembly.specs.declared.slot.Key.{Key}
-
--- a is one of the list
-abbrev pub In : {A : Type 0} → A → List A → Type 0
-In a [] = ⊥
-In a (x ∷ xs) = (a ≡ x) ⊎ In a xs
-
--- byte x of the datagram is one of p's
-abbrev pub Has : Part → ℕ → Type 0
-Has p x = (p .unit * 8 ≤ x) × (x < p .unit * 8 + length (p .bytes))
-
--- the parts ps cover a datagram of so many bytes
-abbrev pub Covers : ℕ → List Part → Type 0
-Covers size ps = (x : ℕ) → x < size → (p : Part) × In p ps × Has p x
 
 -- the datagram, with 0 in its checksum's place where the checksum is elided
 unfoldable pub zeroed : Bool → List ℕ → List ℕ

@@ -15,8 +15,9 @@ use Rattle.reassembly.specs.declared.part.Outcome.{Outcome}
 use Rattle.reassembly.specs.declared.table.Received.{Received}
 use Rattle.receiver.specs.Receive.{callOf}
 use Rattle.receiver.specs.Names.{named}
-use Rattle.promises.specs.Cuttings.{In, Covers, Cutting}
-use Rattle.promises.specs.Runs.{came, MadeOf}
+use Rattle.reassembly.specs.Cover.{In, Covers, MadeOf}
+use Rattle.promises.specs.Cuttings.{Cutting}
+use Rattle.promises.specs.Runs.{came}
 
 -- ---- runs of `receive`
 

@@ -1,17 +1,18 @@
 -- Demand 3 over runs of calls (reassembly's `step`): what it supposes of a run and what it concludes, clause by clause, with the customer's
--- words in quotes; and of which parts a datagram is made.
-use Prim.Native.Nat.{ℕ, _+_, _*_, _-_, _≤_, _<_}
+-- words in quotes.
+use Prim.Native.Nat.{ℕ, _+_, _≤_, _<_}
 use mathlib.Core.Path.{_≡_}
-use mathlib.Core.Bool.{Bool, true}
+use mathlib.Core.Bool.{true}
 use mathlib.Core.List.{List, [], _∷_, _++_}
-use lib.ListN.{length, getD}
+use lib.ListN.{length}
 use Rattle.reassembly.specs.Slots.{owner, isGate}
-use Rattle.reassembly.specs.Parts.{Part, kept, out, finish}
+use Rattle.reassembly.specs.Parts.{Part, kept, out}
 use Rattle.reassembly.specs.Table.{Call, part, State, step, after, comes, next, run}
 use Rattle.reassembly.specs.Fresh.{Gateways}
 use Rattle.reassembly.specs.declared.slot.Node.{Node}
 use Rattle.reassembly.specs.declared.slot.Key.{Key}
-use Rattle.promises.specs.Cuttings.{In, Has, Covers, Cutting}
+use Rattle.reassembly.specs.Cover.{In, Covers}
+use Rattle.promises.specs.Cuttings.{Cutting}
 
 -- the parts that come under k in a run; one that fails check 10 is none
 unfoldable pub came : Key → List Call → List Part
@@ -62,14 +63,3 @@ pub record Concluded (σ : State) (k : Key) (d : List ℕ) (mid : List Call) (t 
   pub none-before : AllKept k σ mid
   -- the covering call hands out d.
   pub exactly : (step (run σ mid) (part t q)) .reply ≡ out d
-
--- d was put together from the parts hs, all under k: from d₀, of which every byte is the byte at its place of one of them, with the checksum
--- computed where the part at byte 0 had it elided
-pub record MadeOf (k : Key) (hs : List Part) (d : List ℕ) : Type 0 where
-  pub elided : Bool
-  pub d₀ : List ℕ
-  pub made : d ≡ finish elided d₀
-  pub sized : length d₀ ≡ k .size
-  pub bounded : k .size ≤ 2047
-  pub each : (x : ℕ) → x < k .size → (q : Part) × In q hs × (q .key ≡ k) × Has q x × (getD d₀ x 0 ≡ getD (q .bytes) (x - q .unit * 8) 0)
-  pub when : elided ≡ true → (q : Part) × In q hs × (q .unit ≡ 0) × (q .elided ≡ true)

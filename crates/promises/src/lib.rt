@@ -6,6 +6,5 @@
 //   `eight-slots`). proofs/Witness.antt meets the premises in bytes, with the frames of proofs/Worked.antt.
 // - It rests on demand 3 over runs of calls of the slot table: specs/Cuttings.antt (a cutting of a datagram) and
 //   specs/Runs.antt, proofs/Runs.antt. That is proved of any engine that meets the laws of proofs/Engine.antt, which
-//   know neither frames nor marks. The slot table is one: proofs/Instance.antt, by proofs/Filling.antt and
-//   proofs/OneSlot.antt on one slot.
-// - proofs/Origin.antt: where the bytes of a datagram that is handed out come from.
+//   know neither frames nor marks. The slot table is one: proofs/Instance.antt, by proofs/Filling.antt on one slot and the
+//   laws of reassembly/proofs.

@@ -7,4 +7,7 @@ pub mod Memory
 pub mod Runs
 pub mod Answers
 pub mod Fresh
+pub mod Fits
+pub mod OneSlot
+pub mod Origin
 pub mod Promises

@@ -68,19 +68,35 @@ hand-summed n d o l s h = by-order 48 n
     let r : leb 48 (length d) ≡ false = lt-leb 48 (length d) (omega arith) in
     rw r (sym (too-short n (put 0 d o) q)))
 
-taken-size : (s : Slot) (p : Part) → taken s p .key .size ≡ s .key .size
+-- a part taken leaves its slot busy, under its key, opened when it was
+pub taken-stays : (s : Slot) (p : Part) → (taken s p .live ≡ s .live) × (taken s p .key ≡ s .key) × (taken s p .since ≡ s .since)
 unfolding takenIn
-taken-size s p = refl
+taken-stays s p = (refl, refl, refl)
+
+taken-size : (s : Slot) (p : Part) → taken s p .key .size ≡ s .key .size
+taken-size s p = ap (λ (k : Key). k .size) (taken-stays s p .1)
 
 module _ (s : Slot) (b : List ℕ) (p : Part) where
-  place-full : full (taken s p) ≡ true
+  pub place-full : full (taken s p) ≡ true
       → place s b p ≡ record { reply = out (finish (taken s p .elided) (take (taken s p .key .size) (written b p))); slot = freeSlot; bytes = written b p; ended = 1; took = true }
   unfolding place
   place-full e = rw e
 
-  place-kept : full (taken s p) ≡ false → place s b p ≡ record { reply = kept; slot = taken s p; bytes = written b p; ended = 0; took = true }
+  pub place-kept : full (taken s p) ≡ false → place s b p ≡ record { reply = kept; slot = taken s p; bytes = written b p; ended = 0; took = true }
   unfolding place
   place-kept e = rw e
+
+  pub offer-repeat : repeats s b p ≡ true → offer s b p ≡ record { reply = kept; slot = s; bytes = b; ended = 0; took = false }
+  unfolding offer
+  offer-repeat e = rw e
+
+  pub offer-clash : repeats s b p ≡ false → touches s p ≡ true → offer s b p ≡ record { reply = refused 11; slot = freeSlot; bytes = b; ended = 1; took = false }
+  unfolding offer
+  offer-clash e t = rw (e, t)
+
+  pub offer-clear : repeats s b p ≡ false → touches s p ≡ false → offer s b p ≡ place s b p
+  unfolding offer
+  offer-clear e t = rw (e, t)
 
   pub does-full : (t f : Slot) (b′ o o′ : List ℕ) → b′ ≡ written b p → t ≡ taken s p → full t ≡ true → s .key .size ≤ length b → f ≡ freeSlot
       → o′ ≡ put 0 (finish (t .elided) (take (t .key .size) b′)) o
@@ -100,17 +116,14 @@ module _ (s : Slot) (b : List ℕ) (p : Part) where
   does-kept t b′ o eb et ef = rw (place-kept (rw (← et) ef)) record { answer = refl; slot = et; bytes = eb; output = refl }
 
   pub does-repeat : (o : List ℕ) → repeats s b p ≡ true → Does (record { outcome = Outcome.Kept; slot = s }) b o o (offer s b p)
-  unfolding offer
-  does-repeat o e = rw e record { answer = refl; slot = refl; bytes = refl; output = refl }
+  does-repeat o e = rw (offer-repeat e) record { answer = refl; slot = refl; bytes = refl; output = refl }
 
   pub does-clash : (f : Slot) (o : List ℕ) → repeats s b p ≡ false → touches s p ≡ true → f ≡ freeSlot
       → Does (record { outcome = Outcome.Refused Refusal.Clash; slot = f }) b o o (offer s b p)
-  unfolding offer
-  does-clash f o e t q = rw (e, t) record { answer = refl; slot = q; bytes = refl; output = refl }
+  does-clash f o e t q = rw (offer-clash e t) record { answer = refl; slot = q; bytes = refl; output = refl }
 
   pub does-place : (r : InSlot) (b′ o o′ : List ℕ) → repeats s b p ≡ false → touches s p ≡ false → Does r b′ o o′ (place s b p) → Does r b′ o o′ (offer s b p)
-  unfolding offer
-  does-place r b′ o o′ e t D = rw (e, t) D
+  does-place r b′ o o′ e t D = rw (offer-clear e t) D
 
 -- ---- a slot keeps its 2,048 bytes
 

@@ -1,18 +1,20 @@
 -- What the slot table promises of every run of calls, from a fresh table with a gateway list that 14 lets pass; and that the contracts
 -- leave no second answer.
-use Prim.Native.Nat.{ℕ, _+_, _≤_, _<_}
+use Prim.Native.Nat.{ℕ, _+_, _*_, _-_, _≤_, _<_}
 use native.Mathlib.Omega.{arith}
 use mathlib.Core.Path.{_≡_, refl, sym, ap, ap₂, _∙_}
+use mathlib.Core.Logic.{_⊎_}
 use mathlib.Core.Bool.{Bool, true, false}
-use mathlib.Core.List.{List}
-use lib.ListN.{length}
+use mathlib.Core.List.{List, [], _∷_, _++_}
+use lib.ListN.{length, getD}
 use Rattle.octets.specs.Refusal.{numberOf}
 use Rattle.octets.proofs.Unique.{number-one}
 use Rattle.ieee802154.specs.declared.addr.Address.{Address}
 use Rattle.reassembly.specs.Lists.{count, firstAt}
 use Rattle.reassembly.specs.Slots.{opened, isFree, expired, gatesOf, isGate, held, free, mayOpen, opening}
-use Rattle.reassembly.specs.Parts.{Reply, kept, out, refused, told, ofOutcome}
-use Rattle.reassembly.specs.Table.{Call, State, Result, slotsAt, run, opensIn, endsIn, Gives}
+use Rattle.reassembly.specs.Parts.{Part, Reply, kept, out, refused, told, ofOutcome}
+use Rattle.reassembly.specs.Table.{Call, part, State, Result, slotsAt, step, run, opensIn, endsIn, takenSince, Gives}
+use Rattle.reassembly.specs.Cover.{In, Has, MadeOf}
 use Rattle.reassembly.specs.Fresh.{Begins, ofListed, Gateways, begun}
 use Rattle.reassembly.specs.declared.slot.Node.{Node}
 use Rattle.reassembly.specs.declared.slot.Key.{Key}
@@ -22,7 +24,9 @@ use Rattle.reassembly.specs.declared.table.Received.{Received}
 use Rattle.reassembly.specs.declared.table.Listed.{Listed}
 use Rattle.reassembly.proofs.Lists.{firstAt-found}
 use Rattle.reassembly.proofs.Gateways.{idle, free-for-idle, mayOpen-none, mayOpen-rule, Sound}
-use Rattle.reassembly.proofs.Runs.{Good, good-at, fresh-good, fresh-free, run-good, run-count}
+use Rattle.reassembly.proofs.Parts.{finish-byte}
+use Rattle.reassembly.proofs.Origin.{did-made, run-told, fresh-told, taken-snoc}
+use Rattle.reassembly.proofs.Runs.{Good, good-at, step-did, fresh-good, fresh-free, run-good, run-count}
 
 module _ (gs : List Node) (m : List ℕ) (W : Gateways gs) (h : 16384 ≤ length m) (cs : List Call) where
   good : Good (run (begun gs m) cs)
@@ -50,6 +54,24 @@ module _ (gs : List Node) (m : List ℕ) (W : Gateways gs) (h : 16384 ≤ length
   -- "At every moment openings so far less endings so far, plus free slots, is 8."
   pub tally : opensIn (begun gs m) cs + free (run (begun gs m) cs .table .slots) ≡ 8 + endsIn (begun gs m) cs
   tally = omega (arith, run-count cs (begun gs m) (fresh-good gs m W h), fresh-free gs)
+
+  -- "bytes of two such keys never meet in one datagram", in 01's words: "each byte handed out from a slot, a computed checksum aside, is the
+  -- byte at its place of a part taken under that slot's key since the slot's opening." A part p that makes the table hand out d: d is made of
+  -- the parts taken under p's key since its slot's opening, p among them.
+  pub never-meet : (t : ℕ) (p : Part) (d : List ℕ) → (step (run (begun gs m) cs) (part t p)) .reply ≡ out d
+      → MadeOf (p .key) (takenSince (p .key) (begun gs m) (cs ++ (part t p ∷ [])) []) d
+  never-meet t p d a =
+      let σ = run (begun gs m) cs in
+      let T = run-told cs (p .key) (begun gs m) [] (fresh-good gs m W h) (fresh-told gs m (p .key)) in
+      rw (taken-snoc (p .key) cs (part t p) (begun gs m) [])
+      (did-made (p .key) σ (takenSince (p .key) (begun gs m) cs []) d good (step-did σ (part t p) good) T refl a)
+
+-- byte by byte: of a datagram made of the parts hs each byte but a computed checksum's, at 46 and 47, is that of one of them at its place
+pub each-byte : (k : Key) (hs : List Part) (d : List ℕ) (M : MadeOf k hs d) (x : ℕ) → x < k .size → (M .elided ≡ true → (x < 46) ⊎ (48 ≤ x))
+    → (q : Part) × In q hs × (q .key ≡ k) × Has q x × (getD d x 0 ≡ getD (q .bytes) (x - q .unit * 8) 0)
+each-byte k hs d M x l a =
+    let w = M .each x l in
+    (w .0, w .1, w .2, w .3, ap (λ (z : List ℕ). getD z x 0) (M .made) ∙ finish-byte (M .elided) (M .d₀) x a ∙ w .4)
 
 -- K12: a slot opened at 0 is held at 59,999, gone at 60,000
 pub k12-held : (k : Key) → expired 59999 (opened k 0) ≡ false

@@ -3,3 +3,4 @@ pub mod Slots
 pub mod Parts
 pub mod Table
 pub mod Fresh
+pub mod Cover

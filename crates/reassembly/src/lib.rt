@@ -6,7 +6,8 @@
 //
 // The answer, the table, the lent memory and the output are, on every input, those of specs/Table.antt's `step`. proofs/
 // shows of every table that comes from calls that no gateway holds over three slots, that the free slots suffice for the
-// gateways that hold none, that such a gateway can always open one, and that openings less endings, plus free slots, is 8.
+// gateways that hold none, that such a gateway can always open one, that openings less endings, plus free slots, is 8, and
+// that each byte handed out from a slot, a computed checksum aside, is that of a part taken under its key since its opening.
 pub mod part;
 pub mod slot;
 pub mod table;

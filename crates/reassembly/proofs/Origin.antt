@@ -5,27 +5,27 @@ use native.Mathlib.Omega.{arith}
 use mathlib.Core.Path.{_≡_, refl, sym, ap, _∙_}
 use mathlib.Core.Logic.{_≢_}
 use mathlib.Core.Bool.{true, false}
-use mathlib.Core.List.{List, [], _∷_}
+use mathlib.Core.List.{List, [], _∷_, _++_}
 use lib.ListN.{length, getD, set, take, replicate, length-replicate}
 use lib.Seq.{getD-set-same, getD-set-other, getD-take, length-take-le}
 use Rattle.reassembly.specs.Lists.{count}
 use Rattle.reassembly.specs.Slots.{sameKey, freeSlot, opened, isKey, expired, expire1, expire}
 use Rattle.reassembly.specs.Parts.{Part, Reply, kept, out, refused, fits, repeats, touches, takenIn, taken, written, full, finish, Put, place, offer}
 use Rattle.reassembly.specs.Table.{Call, short, other, part, State, Result, chunk, splice, withSlots, untouched, slotsAt, pass, land, offerAt, openAt, step, next, run, note, takenSince}
 use Rattle.reassembly.specs.Fresh.{fresh, begun}
 use Rattle.reassembly.specs.declared.slot.Node.{Node}
 use Rattle.reassembly.specs.declared.slot.Key.{Key}
 use Rattle.reassembly.specs.declared.slot.Slot.{Slot}
 use Rattle.reassembly.proofs.Tests.{no-both, by-test, not-true-false}
 use Rattle.reassembly.proofs.Lists.{count-at, count-replicate, firstAt-only}
 use Rattle.reassembly.proofs.Slots.{sameKey-eq, sameKey-refl}
 use Rattle.reassembly.proofs.Gateways.{isKey-key, isKey-of, freeSlot-key, getD-expire, expire1-young, After, freed, stays}
-use Rattle.reassembly.proofs.Parts.{place-length, offer-length}
+use Rattle.reassembly.proofs.Parts.{place-length, offer-length, offer-repeat, offer-clash, offer-clear}
 use Rattle.reassembly.proofs.Memory.{chunk-same, chunk-other}
 use Rattle.reassembly.proofs.Runs.{offer-after, place-after, Good, good-at, Offered, Opens, Did, lacking, stale, passed, offered, opens, Says, step-did, did-good, Holding, chunk-len, len-at}
-use Rattle.promises.specs.Runs.{MadeOf}
-use Rattle.promises.proofs.Fits.{fit}
-use Rattle.promises.proofs.OneSlot.{Holds, holds-nothing, opened-clear, taking, full→covers}
+use Rattle.reassembly.specs.Cover.{MadeOf}
+use Rattle.reassembly.proofs.Fits.{fit}
+use Rattle.reassembly.proofs.OneSlot.{Holds, holds-nothing, opened-clear, taking, full→covers}
 
 -- wherever k is open, its slot and memory hold the parts h
 abbrev pub Told : Key → State → List Part → Type 0
@@ -91,10 +91,9 @@ pub data OfferCase (s : Slot) (b : List ℕ) (p : Part) : Type 0 where
   placed : touches s p ≡ false → offer s b p ≡ place s b p → OfferCase s b p
 
 offer-case : (s : Slot) (b : List ℕ) (p : Part) → OfferCase s b p
-unfolding offer
 offer-case s b p = by-test (repeats s b p)
-    (λ e. repeated (unfold offer in (rw e)))
-    (λ e. by-test (touches s p) (λ c. clashed (unfold offer in (rw (e, c)))) (λ c. placed c (unfold offer in (rw (e, c)))))
+    (λ e. repeated (offer-repeat s b p e))
+    (λ e. by-test (touches s p) (λ c. clashed (offer-clash s b p e c)) (λ c. placed c (offer-clear s b p e c)))
 
 offer-told : (k : Key) (h : List Part) (s : Slot) (b : List ℕ) (t : ℕ) (p : Part) (r : Result) → Holds k h s b → p .key ≡ k → fits p ≡ true
     → r .took ≡ (offer s b p) .took → r .opens ≡ 0 → isKey k ((offer s b p) .slot) ≡ true
@@ -231,6 +230,12 @@ unfolding run takenSince next
 run-told [] k σ h G T = T
 run-told (c ∷ cs) k σ h G T =
     run-told cs k (next σ c) (note k c (step σ c) h) (did-good σ G (step-did σ c G)) (did-told k σ h G (step-did σ c G) T)
+
+pub taken-snoc : (k : Key) (cs : List Call) (c : Call) (σ : State) (h : List Part)
+    → takenSince k σ (cs ++ (c ∷ [])) h ≡ note k c (step (run σ cs) c) (takenSince k σ cs h)
+unfolding takenSince run
+taken-snoc k [] c σ h = refl
+taken-snoc k (x ∷ cs) c σ h = taken-snoc k cs c (next σ x) (note k x (step σ x) h)
 
 -- ---- a datagram handed out
 

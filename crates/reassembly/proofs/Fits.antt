@@ -7,9 +7,9 @@ use mathlib.Core.Bool.{true, _&&_, _||_}
 use lib.ListN.{length}
 use lib.Dec.{leb, eqb}
 use borrow.Author.Tests.{leb-true, eqb-true}
 use Rattle.reassembly.specs.Parts.{Part, units, fitsIn, fits}
 use Rattle.reassembly.proofs.Tests.{and-left, and-right, or-cases}
-use Rattle.promises.specs.Cuttings.{Has}
+use Rattle.reassembly.specs.Cover.{Has}
 
 pub record Fit (p : Part) : Type 0 where
   pub big : 40 ≤ p .key .size

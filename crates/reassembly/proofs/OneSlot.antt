@@ -15,16 +15,16 @@ use Rattle.octets.specs.Read.{choose}
 use Rattle.marks.specs.Marks.{hasIn, fill, unpack}
 use Rattle.marks.proofs.Words.{length-fill, unpack-pack}
 use Rattle.expand.proofs.CopyLaws.{length-put}
 use Rattle.reassembly.specs.Lists.{sameList}
-use Rattle.reassembly.specs.Slots.{opened}
+use Rattle.reassembly.specs.Slots.{busy, opened}
 use Rattle.reassembly.specs.Parts.{Part, units, fits, spans, repeatsIn, repeats, touches, takenIn, taken, written, full}
 use Rattle.reassembly.specs.declared.slot.Key.{Key}
 use Rattle.reassembly.specs.declared.slot.Slot.{Slot}
 use Rattle.reassembly.proofs.Tests.{no-both, by-test, by-order, not-true-false, and-left, and-right, or-cases, or-left, or-right}
 use Rattle.reassembly.proofs.Lists.{getD-sets-before, getD-sets-after, getD-sets-in, put-sets, sameList-refl, sameList-eq}
-use Rattle.promises.specs.Cuttings.{In, Has, Covers}
+use Rattle.reassembly.specs.Cover.{In, Has, Covers}
 use Rattle.marks.proofs.Ranges.{has-unit, unit-has, whole-unit, unit-whole, fill-in, fill-before, fill-after, no-marks, none-marked}
-use Rattle.promises.proofs.Fits.{Fit, fit, HasUnit, unit→byte, byte→unit, unit→bytes, units-end, units-pos, units-same}
+use Rattle.reassembly.proofs.Fits.{Fit, fit, HasUnit, unit→byte, byte→unit, unit→bytes, units-end, units-pos, units-same}
 
 -- the units covered, and those where a part began
 abbrev pub cover : Slot → List Bool
@@ -76,6 +76,10 @@ holds-nothing k t b h = record {
   where
     empty : length (unpack (replicate 4 0)) ≡ 256
     empty = ap length no-marks ∙ length-replicate 256 false
+
+pub opened-as : (k : Key) (t : ℕ) → (busy (opened k t) ≡ true) × (opened k t .key ≡ k) × (opened k t .since ≡ t)
+unfolding opened
+opened-as k t = (refl, refl, refl)
 
 -- an opened slot touches nothing
 pub opened-clear : (k : Key) (t : ℕ) (q : Part) → touches (opened k t) q ≡ false
