@@ -1,0 +1,380 @@
+// What a call that takes a part costs: ours, plain C and C with packed marks, in one run over the same calls.
+//
+//   parts check            the three give the same answers, slot memory and output on the same calls; else it ends with 1
+//   parts time REPEATS     nanoseconds a call
+//   parts count KIND LAPS  one kind alone over the headline's calls, for callgrind
+//   parts stack            bytes of stack below a call
+#include "bench.h"
+#include <pthread.h>
+#include <stdio.h>
+#include <stdlib.h>
+#include <string.h>
+#include <time.h>
+
+enum { MEM = 16384, ROOM = 2047, MOST = 8 * 256 };
+
+static const struct table_kind *const kinds[3] = {&ours, &plain, &packed};
+
+// A table of each kind with the memory that is lent to it.
+struct side {
+  const struct table_kind *kind;
+  uint64_t table[1024];
+  uint8_t mem[MEM], out[ROOM];
+  struct lent lent;
+};
+
+static struct side sides[3];
+
+static void begin(struct side *s, const struct table_kind *kind) {
+  if (kind->size > sizeof s->table) abort();
+  s->kind = kind;
+  memset(s->mem, 0, MEM);
+  memset(s->out, 0, ROOM);
+  s->lent = (struct lent){s->mem, MEM, s->out, ROOM};
+  kind->fresh(s->table);
+}
+
+static uint64_t receive(struct side *s, const struct call *c) { return s->kind->receive(s->table, c, &s->lent); }
+
+// The bytes of the datagrams, one for each stream.
+static uint8_t bytes[8][2048];
+
+static uint32_t drawn(uint64_t *state) {
+  *state = *state * 6364136223846793005u + 1442695040888963407u;
+  return (uint32_t)(*state >> 33);
+}
+
+static void make_bytes(void) {
+  uint64_t state = 1;
+  for (size_t s = 0; s < 8; s++)
+    for (size_t i = 0; i < 2048; i++) bytes[s][i] = (uint8_t)drawn(&state);
+}
+
+// A workload: so many streams take turns, a part each. A stream sends datagrams of so many bytes, cut into parts, one
+// datagram after the other. Stream s comes from gateway s % 4, and the streams' datagrams end at different times.
+enum order { FORWARD, BACKWARD, SHUFFLED };
+struct load {
+  const char *name;
+  unsigned streams, size, part;
+  enum order order;
+  bool elided, twice; // checksums elided; each part comes twice
+};
+
+static const struct load headline = {"8 streams, 2,047 bytes in 20 parts", 8, 2047, 104, FORWARD, false, false};
+
+// One lap of a workload: every stream sends one datagram.
+struct lap {
+  struct call calls[MOST];
+  bool early[MOST]; // left out of the first lap, in which streams begin one after the other
+  size_t count;
+};
+
+static struct lap lap;
+
+static void make_lap(const struct load *l) {
+  unsigned parts = (l->size + l->part - 1) / l->part, order[2048];
+  uint64_t state = 7;
+  for (unsigned i = 0; i < parts; i++) order[i] = l->order == BACKWARD ? parts - 1 - i : i;
+  if (l->order == SHUFFLED)
+    for (unsigned i = parts - 1; i > 0; i--) {
+      unsigned j = drawn(&state) % (i + 1), x = order[i];
+      order[i] = order[j];
+      order[j] = x;
+    }
+  lap.count = 0;
+  for (unsigned r = 0; r < parts; r++)
+    for (unsigned s = 0; s < l->streams; s++) {
+      unsigned first = s * parts / l->streams, p = order[(r + parts - first) % parts], at = p * l->part;
+      unsigned n = l->size - at < l->part ? l->size - at : l->part;
+      for (unsigned k = 0; k < (l->twice ? 2u : 1u); k++) {
+        lap.early[lap.count] = r < first;
+        lap.calls[lap.count++] = (struct call){0, s % 4 + 1, 0xffff, (uint16_t)l->size, (uint16_t)(s + 1), (uint8_t)(at / 8), l->elided, bytes[s] + at, n};
+      }
+    }
+}
+
+// The first lap. From its end on every lap finds the table as the one before it did.
+static void first_lap(struct side *s) {
+  for (size_t i = 0; i < lap.count; i++)
+    if (!lap.early[i]) receive(s, &lap.calls[i]);
+}
+
+static uint64_t run(struct side *s, size_t laps) {
+  uint64_t sum = 0;
+  for (size_t k = 1; k <= laps; k++)
+    for (size_t i = 0; i < lap.count; i++) {
+      lap.calls[i].time = k;
+      sum += receive(s, &lap.calls[i]);
+    }
+  return sum;
+}
+
+// The three on one call: the same answer, and the same bytes afterwards.
+static uint64_t agreed(const struct call *c) {
+  uint64_t answers[3];
+  for (size_t k = 0; k < 3; k++) answers[k] = receive(&sides[k], c);
+  for (size_t k = 1; k < 3; k++) {
+    const char *what = answers[k] != answers[0]                           ? "answer"
+                       : memcmp(sides[k].mem, sides[0].mem, MEM) != 0     ? "slot memory"
+                       : memcmp(sides[k].out, sides[0].out, ROOM) != 0    ? "output"
+                                                                          : NULL;
+    if (what == NULL) continue;
+    fprintf(stderr, "parts: %s and %s differ in the %s: answers %llu and %llu, time %llu, src %llu, size %u, tag %u, offset %u, %zu bytes\n",
+            sides[0].kind->name, sides[k].kind->name, what, (unsigned long long)answers[0], (unsigned long long)answers[k], (unsigned long long)c->time,
+            (unsigned long long)c->src, c->size, c->tag, c->offset, c->n);
+    exit(1);
+  }
+  return answers[0];
+}
+
+static void begin_all(void) {
+  for (size_t k = 0; k < 3; k++) begin(&sides[k], kinds[k]);
+}
+
+// A call drawn so that every answer comes up: few keys, sizes at the boundaries, parts cut as others were or not.
+static struct call drawn_call(uint64_t *state, uint64_t *time, uint8_t *scratch) {
+  static const uint16_t sizes[] = {39, 40, 47, 48, 49, 64, 200, 200, 200, 511, 512, 1280, 2040, 2047, 2048};
+  static const uint8_t cuts[] = {8, 24, 24, 24, 64, 104, 104};
+  unsigned stream = drawn(state) % 8;
+  struct call c = {.dst = 1 + drawn(state) % 2};
+  c.src = drawn(state) % 40 == 0 ? 5 : drawn(state) % 4 + 1;
+  c.size = sizes[drawn(state) % 15];
+  c.tag = (uint16_t)(drawn(state) % 2);
+  size_t cut = cuts[(c.size + c.tag + (drawn(state) % 30 == 0)) % 7];
+  size_t at = cut * (drawn(state) % (c.size / cut + 1));
+  c.n = at + cut > c.size ? c.size - at : cut;
+  if (drawn(state) % 60 == 0) c.n = drawn(state) % 128;
+  if (drawn(state) % 60 == 0) at = 8 * (drawn(state) % 256);
+  c.offset = (uint8_t)(at / 8);
+  c.elided = (c.size + c.tag) % 2 == 0;
+  stream = (unsigned)(c.src + c.tag) % 8;
+  memset(scratch, 0, 128);
+  for (size_t i = 0; i < c.n; i++) scratch[i] = bytes[stream][(at + i) % 2048];
+  if (drawn(state) % 100 == 0 && c.n != 0) scratch[drawn(state) % c.n] ^= 1;
+  c.part = scratch;
+  uint32_t step = drawn(state) % 1000;
+  if (step < 3) *time += 59999 + step;
+  else if (step < 500) *time += drawn(state) % 40;
+  c.time = step == 999 && *time != 0 ? *time - 1 : *time;
+  return c;
+}
+
+static const struct load timed[] = {
+    {"8 streams, 2,047 bytes in 20 parts", 8, 2047, 104, FORWARD, false, false},
+    {"the same, last part first", 8, 2047, 104, BACKWARD, false, false},
+    {"the same, parts shuffled", 8, 2047, 104, SHUFFLED, false, false},
+    {"the same, each part twice", 8, 2047, 104, FORWARD, false, true},
+    {"the same, checksums elided", 8, 2047, 104, FORWARD, true, false},
+    {"4 streams, 1,280 bytes in 16 parts", 4, 1280, 80, FORWARD, false, false},
+    {"1 stream, 1,280 bytes in 16 parts", 1, 1280, 80, FORWARD, false, false},
+};
+static const unsigned lengths[] = {40, 104, 208, 416, 624, 832, 1040, 1280, 1560, 1820, 2047};
+enum { TIMED = sizeof timed / sizeof *timed, LENGTHS = sizeof lengths / sizeof *lengths };
+
+static struct load by_length(unsigned size) { return (struct load){"", 4, size, 104, FORWARD, false, false}; }
+
+static struct load by_streams(unsigned n) { return (struct load){"", n, 2047, 104, FORWARD, false, false}; }
+
+// Two laps and the first, call by call; whole datagrams must come out, and be the stream's.
+static void check_load(const struct load *l) {
+  make_lap(l);
+  begin_all();
+  size_t outs = 0;
+  for (size_t k = 0; k < 3; k++)
+    for (size_t i = 0; i < lap.count; i++) {
+      if (k == 0 && lap.early[i]) continue;
+      struct call *c = &lap.calls[i];
+      c->time = k;
+      uint64_t a = agreed(c);
+      if (a < OUT) continue;
+      outs++;
+      bool right = a == OUT + l->size;
+      for (size_t j = 0; j < l->size; j++) right = right && (sides[0].out[j] == bytes[c->tag - 1][j] || (l->elided && (j == 46 || j == 47)));
+      if (!right) {
+        fprintf(stderr, "parts: a datagram came out that is not the one sent\n");
+        exit(1);
+      }
+    }
+  if (outs < 2 * l->streams) {
+    fprintf(stderr, "parts: only %zu datagrams came out of %u streams\n", outs, l->streams);
+    exit(1);
+  }
+}
+
+static void check_drawn(size_t count) {
+  uint64_t state = 42, time = 0, seen[OUT + 1] = {0};
+  uint8_t scratch[128];
+  begin_all();
+  for (size_t i = 0; i < count; i++) {
+    struct call c = drawn_call(&state, &time, scratch);
+    bool shorter = drawn(&state) % 500 == 0;
+    for (size_t k = 0; k < 3; k++) sides[k].lent.mem_size = shorter ? MEM - 1 : MEM;
+    uint64_t a = agreed(&c);
+    seen[a > OUT ? OUT : a]++;
+  }
+  printf("%zu drawn calls, the same answers, slot memory and output after each: kept %llu, out %llu", count, (unsigned long long)seen[KEPT], (unsigned long long)seen[OUT]);
+  for (size_t r = NO_ROOM; r <= NO_SLOT; r++) {
+    printf(", no %zu %llu", r, (unsigned long long)seen[r]);
+    if (seen[r] == 0) {
+      fprintf(stderr, "\nparts: refusal %zu never came up\n", r);
+      exit(1);
+    }
+  }
+  printf("\n");
+}
+
+static void check(void) {
+  for (size_t i = 0; i < TIMED; i++) check_load(&timed[i]);
+  for (size_t i = 0; i < LENGTHS; i++) {
+    struct load l = by_length(lengths[i]);
+    check_load(&l);
+  }
+  for (unsigned n = 1; n <= 8; n++) {
+    struct load l = by_streams(n);
+    check_load(&l);
+  }
+  printf("the timed workloads: the same answers, slot memory and output after each call\n");
+  check_drawn(300000);
+}
+
+static double seconds(void) {
+  struct timespec t;
+  clock_gettime(CLOCK_MONOTONIC, &t);
+  return (double)t.tv_sec + (double)t.tv_nsec * 1e-9;
+}
+
+static int by_value(const void *a, const void *b) {
+  double x = *(const double *)a, y = *(const double *)b;
+  return (x > y) - (x < y);
+}
+
+struct times {
+  double best, median;
+};
+
+// Nanoseconds a call of the three, each so many times in turn.
+static void measure(const struct load *l, size_t repeats, struct times *result) {
+  double all[3][1000];
+  make_lap(l);
+  begin_all();
+  for (size_t k = 0; k < 3; k++) first_lap(&sides[k]);
+  size_t laps = 400000 / lap.count;
+  uint64_t sums[3];
+  for (size_t r = 0; r < repeats; r++)
+    for (size_t k = 0; k < 3; k++) {
+      sides[k].kind = kinds[k];
+      begin(&sides[k], kinds[k]);
+      for (size_t i = 0; i < lap.count; i++) lap.calls[i].time = 0;
+      first_lap(&sides[k]);
+      double start = seconds();
+      sums[k] = run(&sides[k], laps);
+      all[k][r] = (seconds() - start) * 1e9 / (double)(laps * lap.count);
+      if (sums[k] != sums[0]) {
+        fprintf(stderr, "parts: the answers differ\n");
+        exit(1);
+      }
+    }
+  for (size_t k = 0; k < 3; k++) {
+    qsort(all[k], repeats, sizeof(double), by_value);
+    result[k] = (struct times){all[k][0], all[k][repeats / 2]};
+  }
+}
+
+static void print_row(const char *name, const struct load *l, size_t repeats) {
+  struct times t[3];
+  measure(l, repeats, t);
+  printf("| %s | %.1f (%.1f) | %.1f (%.1f) | %.1f (%.1f) | %.2f (%.2f) | %.2f (%.2f) |\n", name, t[0].best, t[0].median, t[1].best, t[1].median, t[2].best,
+         t[2].median, t[0].best / t[1].best, t[0].median / t[1].median, t[0].best / t[2].best, t[0].median / t[2].median);
+  fflush(stdout);
+}
+
+static void print_head(const char *what) {
+  printf("\n| %s | ours, ns | plain C, ns | packed C, ns | ours / plain | ours / packed |\n|---|---|---|---|---|---|\n", what);
+}
+
+static void print_times(size_t repeats) {
+  char name[32];
+  print_head("calls");
+  for (size_t i = 0; i < TIMED; i++) print_row(timed[i].name, &timed[i], repeats);
+  print_head("bytes of a datagram");
+  for (size_t i = 0; i < LENGTHS; i++) {
+    struct load l = by_length(lengths[i]);
+    snprintf(name, sizeof name, "%u", lengths[i]);
+    print_row(name, &l, repeats);
+  }
+  print_head("streams");
+  for (unsigned n = 1; n <= 8; n++) {
+    struct load l = by_streams(n);
+    snprintf(name, sizeof name, "%u", n);
+    print_row(name, &l, repeats);
+  }
+}
+
+static void count(const char *name, size_t laps) {
+  for (size_t k = 0; k < 3; k++)
+    if (strcmp(kinds[k]->name, name) == 0) {
+      make_lap(&headline);
+      begin(&sides[k], kinds[k]);
+      first_lap(&sides[k]);
+      run(&sides[k], laps);
+      printf("%zu\n", laps * lap.count);
+      return;
+    }
+  fprintf(stderr, "parts: no table called %s\n", name);
+  exit(1);
+}
+
+// The stack: calls run on a thread whose stack was filled with one byte before, and the bytes that changed are counted.
+enum { STACK = 1 << 18, FILL = 0xa5 };
+static _Alignas(4096) uint8_t stack[STACK];
+
+static void *drawn_calls(void *side) {
+  struct side *s = side;
+  uint64_t state = 42, time = 0;
+  static uint8_t scratch[128];
+  for (size_t i = 0; s != NULL && i < 100000; i++) {
+    struct call c = drawn_call(&state, &time, scratch);
+    receive(s, &c);
+  }
+  return NULL;
+}
+
+static size_t stack_of(void *side) {
+  pthread_t thread;
+  pthread_attr_t attr;
+  memset(stack, FILL, STACK);
+  pthread_attr_init(&attr);
+  pthread_attr_setstack(&attr, stack, STACK);
+  if (pthread_create(&thread, &attr, drawn_calls, side) != 0) abort();
+  pthread_join(thread, NULL);
+  size_t untouched = 0;
+  while (untouched < STACK && stack[untouched] == FILL) untouched++;
+  return STACK - untouched;
+}
+
+static uint64_t no_call(void *table, const struct call *c, const struct lent *l) {
+  (void)table, (void)c, (void)l;
+  return 0;
+}
+
+static void print_stack(void) {
+  static const struct table_kind nothing = {"nothing", 0, NULL, no_call};
+  sides[0].kind = &nothing;
+  size_t empty = stack_of(&sides[0]);
+  printf("\n| | table, bytes | stack below a call, bytes |\n|---|---|---|\n");
+  begin_all();
+  for (size_t k = 0; k < 3; k++) printf("| %s | %zu | %zu |\n", kinds[k]->name, kinds[k]->size, stack_of(&sides[k]) - empty);
+}
+
+int main(int argc, char **argv) {
+  make_bytes();
+  if (argc == 2 && strcmp(argv[1], "check") == 0) check();
+  else if (argc == 3 && strcmp(argv[1], "time") == 0 && atoi(argv[2]) >= 1 && atoi(argv[2]) <= 1000) print_times((size_t)atoi(argv[2]));
+  else if (argc == 4 && strcmp(argv[1], "count") == 0) count(argv[2], (size_t)atoi(argv[3]));
+  else if (argc == 2 && strcmp(argv[1], "stack") == 0) print_stack();
+  else {
+    fprintf(stderr, "usage: parts check | time REPEATS | count KIND LAPS | stack\n");
+    return 2;
+  }
+  return 0;
+}
