@@ -1,8 +1,8 @@
 // What a call that takes a part costs: ours, plain C and C with packed marks, in one run over the same calls.
 //
-//   parts check            the three give the same answers, slot memory and output on the same calls; else it ends with 1
-//   parts time REPEATS     nanoseconds a call
-//   parts count KIND LAPS  one kind alone over the headline's calls, for callgrind
+//   parts check            all give the same answers, slot memory and output on the same calls; else it ends with 1
+//   parts time REPEATS     nanoseconds a call, best (median): each so many times in turn, 20,000 calls at a time
+//   parts count KIND LAPS  one kind alone over the first workload, for callgrind; prints the calls of a lap
 //   parts stack            bytes of stack below a call
 #include "bench.h"
 #include <pthread.h>
@@ -11,9 +11,9 @@
 #include <string.h>
 #include <time.h>
 
-enum { MEM = 16384, ROOM = 2047, MOST = 8 * 256 };
+enum { MEM = 16384, ROOM = 2047, MOST = 8 * 256, KINDS = 4 };
 
-static const struct table_kind *const kinds[3] = {&ours, &plain, &packed};
+static const struct table_kind *const kinds[KINDS] = {&looped, &referred, &plain, &packed};
 
 // A table of each kind with the memory that is lent to it.
 struct side {
@@ -23,21 +23,25 @@ struct side {
   struct lent lent;
 };
 
-static struct side sides[3];
+static struct side sides[KINDS];
 
 static void begin(struct side *s, const struct table_kind *kind) {
   if (kind->size > sizeof s->table) abort();
   s->kind = kind;
   memset(s->mem, 0, MEM);
   memset(s->out, 0, ROOM);
-  s->lent = (struct lent){s->mem, MEM, s->out, ROOM};
+  s->lent = (struct lent){{s->mem, MEM}, {s->out, ROOM}};
   kind->fresh(s->table);
+}
+
+static void begin_all(void) {
+  for (size_t k = 0; k < KINDS; k++) begin(&sides[k], kinds[k]);
 }
 
 static uint64_t receive(struct side *s, const struct call *c) { return s->kind->receive(s->table, c, &s->lent); }
 
-// The bytes of the datagrams, one for each stream.
-static uint8_t bytes[8][2048];
+// The bytes of the datagrams, 2,048 for each stream.
+uint8_t pool[8 * 2048];
 
 static uint32_t drawn(uint64_t *state) {
   *state = *state * 6364136223846793005u + 1442695040888963407u;
@@ -46,8 +50,7 @@ static uint32_t drawn(uint64_t *state) {
 
 static void make_bytes(void) {
   uint64_t state = 1;
-  for (size_t s = 0; s < 8; s++)
-    for (size_t i = 0; i < 2048; i++) bytes[s][i] = (uint8_t)drawn(&state);
+  for (size_t i = 0; i < sizeof pool; i++) pool[i] = (uint8_t)drawn(&state);
 }
 
 // A workload: so many streams take turns, a part each. A stream sends datagrams of so many bytes, cut into parts, one
@@ -60,19 +63,25 @@ struct load {
   bool elided, twice; // checksums elided; each part comes twice
 };
 
-static const struct load headline = {"8 streams, 2,047 bytes in 20 parts", 8, 2047, 104, FORWARD, false, false};
-
-// One lap of a workload: every stream sends one datagram.
-struct lap {
+// A lap of a workload, in which every stream sends one datagram; and the calls before it, in which the streams begin one
+// after the other. Every lap finds the table as the one before it did.
+struct list {
   struct call calls[MOST];
-  bool early[MOST]; // left out of the first lap, in which streams begin one after the other
-  size_t count;
+  uint64_t numbers[NUMBERS * MOST];
+  struct calls whole;
 };
 
-static struct lap lap;
+static struct list first, lap;
 
-static void make_lap(const struct load *l) {
-  unsigned parts = (l->size + l->part - 1) / l->part, order[2048];
+static void add(struct list *l, struct call c) {
+  size_t i = l->whole.count++;
+  const uint64_t numbers[NUMBERS] = {c.src, c.dst, c.size, c.tag, c.offset, c.elided, (uint64_t)(c.part.at - pool), c.part.size};
+  l->calls[i] = c;
+  memcpy(l->numbers + NUMBERS * i, numbers, sizeof numbers);
+}
+
+static void make_laps(const struct load *l) {
+  unsigned parts = (l->size + l->part - 1) / l->part, order[256];
   uint64_t state = 7;
   for (unsigned i = 0; i < parts; i++) order[i] = l->order == BACKWARD ? parts - 1 - i : i;
   if (l->order == SHUFFLED)
@@ -81,77 +90,61 @@ static void make_lap(const struct load *l) {
       order[i] = order[j];
       order[j] = x;
     }
-  lap.count = 0;
+  first.whole = (struct calls){first.calls, 0, first.numbers};
+  lap.whole = (struct calls){lap.calls, 0, lap.numbers};
   for (unsigned r = 0; r < parts; r++)
     for (unsigned s = 0; s < l->streams; s++) {
-      unsigned first = s * parts / l->streams, p = order[(r + parts - first) % parts], at = p * l->part;
-      unsigned n = l->size - at < l->part ? l->size - at : l->part;
+      unsigned begins = s * parts / l->streams, at = order[(r + parts - begins) % parts] * l->part;
+      struct call c = {0, s % 4 + 1, 0xffff, (uint16_t)l->size, (uint16_t)(s + 1), (uint8_t)(at / 8), l->elided, {pool + 2048 * s + at, 0}};
+      c.part.size = l->size - at < l->part ? l->size - at : l->part;
       for (unsigned k = 0; k < (l->twice ? 2u : 1u); k++) {
-        lap.early[lap.count] = r < first;
-        lap.calls[lap.count++] = (struct call){0, s % 4 + 1, 0xffff, (uint16_t)l->size, (uint16_t)(s + 1), (uint8_t)(at / 8), l->elided, bytes[s] + at, n};
+        if (r >= begins) add(&first, c);
+        add(&lap, c);
       }
     }
 }
 
-// The first lap. From its end on every lap finds the table as the one before it did.
-static void first_lap(struct side *s) {
-  for (size_t i = 0; i < lap.count; i++)
-    if (!lap.early[i]) receive(s, &lap.calls[i]);
+// What two sides differ in after a call or a run, or NULL.
+static const char *difference(size_t a, size_t b, uint64_t answer_a, uint64_t answer_b) {
+  if (answer_a != answer_b) return "answer";
+  if (memcmp(sides[a].mem, sides[b].mem, MEM) != 0) return "slot memory";
+  if (memcmp(sides[a].out, sides[b].out, ROOM) != 0) return "output";
+  return NULL;
 }
 
-static uint64_t run(struct side *s, size_t laps) {
-  uint64_t sum = 0;
-  for (size_t k = 1; k <= laps; k++)
-    for (size_t i = 0; i < lap.count; i++) {
-      lap.calls[i].time = k;
-      sum += receive(s, &lap.calls[i]);
-    }
-  return sum;
-}
-
-// The three on one call: the same answer, and the same bytes afterwards.
+// All kinds on one call: the same answer, and the same bytes afterwards.
 static uint64_t agreed(const struct call *c) {
-  uint64_t answers[3];
-  for (size_t k = 0; k < 3; k++) answers[k] = receive(&sides[k], c);
-  for (size_t k = 1; k < 3; k++) {
-    const char *what = answers[k] != answers[0]                           ? "answer"
-                       : memcmp(sides[k].mem, sides[0].mem, MEM) != 0     ? "slot memory"
-                       : memcmp(sides[k].out, sides[0].out, ROOM) != 0    ? "output"
-                                                                          : NULL;
+  uint64_t answers[KINDS];
+  for (size_t k = 0; k < KINDS; k++) answers[k] = receive(&sides[k], c);
+  for (size_t k = 1; k < KINDS; k++) {
+    const char *what = difference(0, k, answers[0], answers[k]);
     if (what == NULL) continue;
     fprintf(stderr, "parts: %s and %s differ in the %s: answers %llu and %llu, time %llu, src %llu, size %u, tag %u, offset %u, %zu bytes\n",
             sides[0].kind->name, sides[k].kind->name, what, (unsigned long long)answers[0], (unsigned long long)answers[k], (unsigned long long)c->time,
-            (unsigned long long)c->src, c->size, c->tag, c->offset, c->n);
+            (unsigned long long)c->src, c->size, c->tag, c->offset, c->part.size);
     exit(1);
   }
   return answers[0];
-}
-
-static void begin_all(void) {
-  for (size_t k = 0; k < 3; k++) begin(&sides[k], kinds[k]);
 }
 
 // A call drawn so that every answer comes up: few keys, sizes at the boundaries, parts cut as others were or not.
 static struct call drawn_call(uint64_t *state, uint64_t *time, uint8_t *scratch) {
   static const uint16_t sizes[] = {39, 40, 47, 48, 49, 64, 200, 200, 200, 511, 512, 1280, 2040, 2047, 2048};
   static const uint8_t cuts[] = {8, 24, 24, 24, 64, 104, 104};
-  unsigned stream = drawn(state) % 8;
   struct call c = {.dst = 1 + drawn(state) % 2};
   c.src = drawn(state) % 40 == 0 ? 5 : drawn(state) % 4 + 1;
   c.size = sizes[drawn(state) % 15];
   c.tag = (uint16_t)(drawn(state) % 2);
   size_t cut = cuts[(c.size + c.tag + (drawn(state) % 30 == 0)) % 7];
   size_t at = cut * (drawn(state) % (c.size / cut + 1));
-  c.n = at + cut > c.size ? c.size - at : cut;
-  if (drawn(state) % 60 == 0) c.n = drawn(state) % 128;
+  size_t n = at + cut > c.size ? c.size - at : cut;
+  if (drawn(state) % 60 == 0) n = drawn(state) % 128;
   if (drawn(state) % 60 == 0) at = 8 * (drawn(state) % 256);
   c.offset = (uint8_t)(at / 8);
   c.elided = (c.size + c.tag) % 2 == 0;
-  stream = (unsigned)(c.src + c.tag) % 8;
-  memset(scratch, 0, 128);
-  for (size_t i = 0; i < c.n; i++) scratch[i] = bytes[stream][(at + i) % 2048];
-  if (drawn(state) % 100 == 0 && c.n != 0) scratch[drawn(state) % c.n] ^= 1;
-  c.part = scratch;
+  for (size_t i = 0; i < n; i++) scratch[i] = pool[2048 * c.src + (at + i) % 2048];
+  if (drawn(state) % 100 == 0 && n != 0) scratch[drawn(state) % n] ^= 1;
+  c.part = (struct slice){scratch, n};
   uint32_t step = drawn(state) % 1000;
   if (step < 3) *time += 59999 + step;
   else if (step < 500) *time += drawn(state) % 40;
@@ -175,30 +168,36 @@ static struct load by_length(unsigned size) { return (struct load){"", 4, size, 
 
 static struct load by_streams(unsigned n) { return (struct load){"", n, 2047, 104, FORWARD, false, false}; }
 
-// Two laps and the first, call by call; whole datagrams must come out, and be the stream's.
+static void fail(const char *why) {
+  fprintf(stderr, "parts: %s\n", why);
+  exit(1);
+}
+
+// A call of a workload: where a datagram comes out, it is the stream's.
+static size_t check_call(const struct load *l, struct call c, uint64_t time) {
+  c.time = time;
+  uint64_t a = agreed(&c);
+  if (a < OUT) return 0;
+  if (a != OUT + l->size) fail("a datagram came out with another length");
+  for (size_t j = 0; j < l->size; j++)
+    if (sides[0].out[j] != pool[2048 * (c.tag - 1u) + j] && !(l->elided && (j == 46 || j == 47))) fail("a datagram came out that is not the one sent");
+  return 1;
+}
+
+// A workload call by call, then as it is timed.
 static void check_load(const struct load *l) {
-  make_lap(l);
-  begin_all();
   size_t outs = 0;
-  for (size_t k = 0; k < 3; k++)
-    for (size_t i = 0; i < lap.count; i++) {
-      if (k == 0 && lap.early[i]) continue;
-      struct call *c = &lap.calls[i];
-      c->time = k;
-      uint64_t a = agreed(c);
-      if (a < OUT) continue;
-      outs++;
-      bool right = a == OUT + l->size;
-      for (size_t j = 0; j < l->size; j++) right = right && (sides[0].out[j] == bytes[c->tag - 1][j] || (l->elided && (j == 46 || j == 47)));
-      if (!right) {
-        fprintf(stderr, "parts: a datagram came out that is not the one sent\n");
-        exit(1);
-      }
-    }
-  if (outs < 2 * l->streams) {
-    fprintf(stderr, "parts: only %zu datagrams came out of %u streams\n", outs, l->streams);
-    exit(1);
-  }
+  uint64_t sums[KINDS];
+  make_laps(l);
+  begin_all();
+  for (size_t i = 0; i < first.whole.count; i++) outs += check_call(l, first.calls[i], 0);
+  for (size_t k = 1; k <= 2; k++)
+    for (size_t i = 0; i < lap.whole.count; i++) outs += check_call(l, lap.calls[i], k);
+  if (outs < 2 * l->streams) fail("too few datagrams came out");
+  begin_all();
+  for (size_t k = 0; k < KINDS; k++) sums[k] = kinds[k]->run(sides[k].table, &first.whole, &lap.whole, 3, &sides[k].lent);
+  for (size_t k = 1; k < KINDS; k++)
+    if (difference(0, k, sums[0], sums[k]) != NULL) fail("a timed run differs");
 }
 
 static void check_drawn(size_t count) {
@@ -208,7 +207,7 @@ static void check_drawn(size_t count) {
   for (size_t i = 0; i < count; i++) {
     struct call c = drawn_call(&state, &time, scratch);
     bool shorter = drawn(&state) % 500 == 0;
-    for (size_t k = 0; k < 3; k++) sides[k].lent.mem_size = shorter ? MEM - 1 : MEM;
+    for (size_t k = 0; k < KINDS; k++) sides[k].lent.mem.size = shorter ? MEM - 1 : MEM;
     uint64_t a = agreed(&c);
     seen[a > OUT ? OUT : a]++;
   }
@@ -252,44 +251,39 @@ struct times {
   double best, median;
 };
 
-// Nanoseconds a call of the three, each so many times in turn.
+// Nanoseconds a call of each kind, so many times in turn.
 static void measure(const struct load *l, size_t repeats, struct times *result) {
-  double all[3][1000];
-  make_lap(l);
+  static double all[KINDS][1000];
+  uint64_t sums[KINDS];
+  make_laps(l);
   begin_all();
-  for (size_t k = 0; k < 3; k++) first_lap(&sides[k]);
-  size_t laps = 400000 / lap.count;
-  uint64_t sums[3];
+  size_t laps = 20000 / lap.whole.count;
   for (size_t r = 0; r < repeats; r++)
-    for (size_t k = 0; k < 3; k++) {
-      sides[k].kind = kinds[k];
-      begin(&sides[k], kinds[k]);
-      for (size_t i = 0; i < lap.count; i++) lap.calls[i].time = 0;
-      first_lap(&sides[k]);
+    for (size_t k = 0; k < KINDS; k++) {
       double start = seconds();
-      sums[k] = run(&sides[k], laps);
-      all[k][r] = (seconds() - start) * 1e9 / (double)(laps * lap.count);
-      if (sums[k] != sums[0]) {
-        fprintf(stderr, "parts: the answers differ\n");
-        exit(1);
-      }
+      sums[k] = kinds[k]->run(sides[k].table, &first.whole, &lap.whole, laps, &sides[k].lent);
+      all[k][r] = (seconds() - start) * 1e9 / (double)(first.whole.count + laps * lap.whole.count);
+      if (sums[k] != sums[0]) fail("the answers differ");
     }
-  for (size_t k = 0; k < 3; k++) {
+  for (size_t k = 0; k < KINDS; k++) {
     qsort(all[k], repeats, sizeof(double), by_value);
     result[k] = (struct times){all[k][0], all[k][repeats / 2]};
   }
 }
 
 static void print_row(const char *name, const struct load *l, size_t repeats) {
-  struct times t[3];
+  struct times t[KINDS];
   measure(l, repeats, t);
-  printf("| %s | %.1f (%.1f) | %.1f (%.1f) | %.1f (%.1f) | %.2f (%.2f) | %.2f (%.2f) |\n", name, t[0].best, t[0].median, t[1].best, t[1].median, t[2].best,
-         t[2].median, t[0].best / t[1].best, t[0].median / t[1].median, t[0].best / t[2].best, t[0].median / t[2].median);
+  printf("| %s ", name);
+  for (size_t k = 0; k < KINDS; k++) printf("| %.1f (%.1f) ", t[k].best, t[k].median);
+  const size_t over[3][2] = {{0, 2}, {1, 2}, {0, 3}};
+  for (size_t i = 0; i < 3; i++) printf("| %.2f (%.2f) ", t[over[i][0]].best / t[over[i][1]].best, t[over[i][0]].median / t[over[i][1]].median);
+  printf("|\n");
   fflush(stdout);
 }
 
 static void print_head(const char *what) {
-  printf("\n| %s | ours, ns | plain C, ns | packed C, ns | ours / plain | ours / packed |\n|---|---|---|---|---|---|\n", what);
+  printf("\n| %s | ours, ns | behind a reference | plain C | packed C | ours / plain | reference / plain | ours / packed |\n|---|---|---|---|---|---|---|---|\n", what);
 }
 
 static void print_times(size_t repeats) {
@@ -311,17 +305,15 @@ static void print_times(size_t repeats) {
 }
 
 static void count(const char *name, size_t laps) {
-  for (size_t k = 0; k < 3; k++)
+  for (size_t k = 0; k < KINDS; k++)
     if (strcmp(kinds[k]->name, name) == 0) {
-      make_lap(&headline);
+      make_laps(&timed[0]);
       begin(&sides[k], kinds[k]);
-      first_lap(&sides[k]);
-      run(&sides[k], laps);
-      printf("%zu\n", laps * lap.count);
+      kinds[k]->run(sides[k].table, &first.whole, &lap.whole, laps, &sides[k].lent);
+      printf("%zu\n", lap.whole.count);
       return;
     }
-  fprintf(stderr, "parts: no table called %s\n", name);
-  exit(1);
+  fail("no table is called so");
 }
 
 // The stack: calls run on a thread whose stack was filled with one byte before, and the bytes that changed are counted.
@@ -358,12 +350,12 @@ static uint64_t no_call(void *table, const struct call *c, const struct lent *l)
 }
 
 static void print_stack(void) {
-  static const struct table_kind nothing = {"nothing", 0, NULL, no_call};
+  static const struct table_kind nothing = {"nothing", 0, NULL, no_call, NULL};
   sides[0].kind = &nothing;
   size_t empty = stack_of(&sides[0]);
   printf("\n| | table, bytes | stack below a call, bytes |\n|---|---|---|\n");
   begin_all();
-  for (size_t k = 0; k < 3; k++) printf("| %s | %zu | %zu |\n", kinds[k]->name, kinds[k]->size, stack_of(&sides[k]) - empty);
+  for (size_t k = 1; k < KINDS; k++) printf("| %s | %zu | %zu |\n", kinds[k]->name, kinds[k]->size, stack_of(&sides[k]) - empty);
 }
 
 int main(int argc, char **argv) {

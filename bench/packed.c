@@ -31,4 +31,4 @@ static bool has_mark(const Marks *m, bool b, size_t u, size_t e) {
 
 #include "rules.h"
 
-const struct table_kind packed = {"packed C", sizeof(struct table), fresh, receive};
+const struct table_kind packed = {"packed C", sizeof(struct table), fresh, receive, run};

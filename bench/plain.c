@@ -21,4 +21,4 @@ static bool has_mark(const Marks *m, bool b, size_t u, size_t e) {
 
 #include "rules.h"
 
-const struct table_kind plain = {"plain C", sizeof(struct table), fresh, receive};
+const struct table_kind plain = {"plain C", sizeof(struct table), fresh, receive, run};

@@ -109,8 +109,8 @@ static void put_checksum(uint8_t *d, size_t n) {
 // Takes a part that touches nothing taken; full cover hands the datagram out and frees the slot.
 static uint64_t place(struct slot *s, uint8_t *room, const struct call *c, uint8_t *out) {
   size_t u = c->offset, size = c->size;
-  memcpy(room + 8 * u, c->part, c->n);
-  mark(&s->covered, u, u + units(c->n));
+  memcpy(room + 8 * u, c->part.at, c->part.size);
+  mark(&s->covered, u, u + units(c->part.size));
   mark(&s->starts, u, u + 1);
   if (u == 0) s->elided = c->elided;
   if (has_mark(&s->covered, false, 0, units(size))) return KEPT;
@@ -121,8 +121,8 @@ static uint64_t place(struct slot *s, uint8_t *room, const struct call *c, uint8
 }
 
 static uint64_t offer(struct slot *s, uint8_t *room, const struct call *c, uint8_t *out) {
-  size_t u = c->offset, e = u + units(c->n);
-  if (is_span(s, u, e) && memcmp(room + 8 * u, c->part, c->n) == 0) return KEPT;
+  size_t u = c->offset, e = u + units(c->part.size);
+  if (is_span(s, u, e) && memcmp(room + 8 * u, c->part.at, c->part.size) == 0) return KEPT;
   if (has_mark(&s->covered, true, u, e)) {
     free_slot(s);
     return CLASH;
@@ -136,30 +136,40 @@ static bool is_gateway(const struct table *t, const struct address *a) {
   return false;
 }
 
-static uint64_t receive(void *table, const struct call *c, const struct lent *l) {
-  struct table *t = table;
-  if (l->mem_size < 16384 || l->out_size < 2047) return NO_ROOM;
-  if (c->time < t->last) return EARLIER;
-  t->last = c->time;
+static uint64_t receive_at(struct table *t, uint64_t time, const struct call *c, const struct lent *l) {
+  if (l->mem.size < 16384 || l->out.size < 2047) return NO_ROOM;
+  if (time < t->last) return EARLIER;
+  t->last = time;
   for (size_t i = 0; i < 8; i++)
-    if (t->slots[i].live && c->time - t->slots[i].since >= 60000) free_slot(&t->slots[i]);
+    if (t->slots[i].live && time - t->slots[i].since >= 60000) free_slot(&t->slots[i]);
   struct key key = {.src = {1, c->src}, .dst = {1, c->dst}, .size = c->size, .tag = c->tag};
   if (!is_gateway(t, &key.src)) return NOT_GATEWAY;
-  if (!fits(c->size, (size_t)c->offset * 8, c->n)) return BAD_PART;
+  if (!fits(c->size, (size_t)c->offset * 8, c->part.size)) return BAD_PART;
   for (size_t i = 0; i < 8; i++)
-    if (t->slots[i].live && same_key(&t->slots[i].key, &key)) return offer(&t->slots[i], l->mem + 2048 * i, c, l->out);
+    if (t->slots[i].live && same_key(&t->slots[i].key, &key)) return offer(&t->slots[i], l->mem.at + 2048 * i, c, l->out.at);
   size_t i = to_open(t, &key.src);
   if (i == 8) return NO_SLOT;
   struct slot *s = &t->slots[i];
   free_slot(s);
   s->live = true;
   s->key = key;
-  s->since = c->time;
-  return place(s, l->mem + 2048 * i, c, l->out);
+  s->since = time;
+  return place(s, l->mem.at + 2048 * i, c, l->out.at);
 }
 
 static void fresh(void *table) {
   struct table *t = table;
   memset(t, 0, sizeof *t);
   for (size_t i = 0; i < 4; i++) t->gateways[i] = (struct address){1, i + 1};
+}
+
+static uint64_t receive(void *table, const struct call *c, const struct lent *l) { return receive_at(table, c->time, c, l); }
+
+static uint64_t run(void *table, const struct calls *first, const struct calls *lap, size_t laps, const struct lent *l) {
+  uint64_t sum = 0;
+  fresh(table);
+  for (size_t i = 0; i < first->count; i++) sum += receive_at(table, 0, &first->of[i], l);
+  for (size_t k = 1; k <= laps; k++)
+    for (size_t i = 0; i < lap->count; i++) sum += receive_at(table, k, &lap->of[i], l);
+  return sum;
 }
