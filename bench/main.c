@@ -252,9 +252,18 @@ struct times {
   double best, median;
 };
 
-// Nanoseconds a call of each kind, so many times in turn.
-static void measure(const struct load *l, size_t repeats, struct times *result) {
-  static double all[KINDS][1000];
+// The quotients that are printed, by the places of the kinds.
+enum { QUOTIENTS = 3 };
+static const size_t quotients[QUOTIENTS][2] = {{0, 2}, {1, 2}, {0, 3}};
+
+struct spread {
+  double quarter, half, three_quarters;
+};
+
+// Nanoseconds a call of each kind, so many times in turn; and the quotients, turn by turn, since the machine's speed changes from
+// one turn to another.
+static void measure(const struct load *l, size_t repeats, struct times *times, struct spread *spreads) {
+  static double all[KINDS][1000], ratios[1000];
   uint64_t sums[KINDS];
   make_laps(l);
   begin_all();
@@ -266,19 +275,24 @@ static void measure(const struct load *l, size_t repeats, struct times *result) 
       all[k][r] = (seconds() - start) * 1e9 / (double)(first.whole.count + laps * lap.whole.count);
       if (sums[k] != sums[0]) fail("the answers differ");
     }
+  for (size_t q = 0; q < QUOTIENTS; q++) {
+    for (size_t r = 0; r < repeats; r++) ratios[r] = all[quotients[q][0]][r] / all[quotients[q][1]][r];
+    qsort(ratios, repeats, sizeof(double), by_value);
+    spreads[q] = (struct spread){ratios[repeats / 4], ratios[repeats / 2], ratios[repeats * 3 / 4]};
+  }
   for (size_t k = 0; k < KINDS; k++) {
     qsort(all[k], repeats, sizeof(double), by_value);
-    result[k] = (struct times){all[k][0], all[k][repeats / 2]};
+    times[k] = (struct times){all[k][0], all[k][repeats / 2]};
   }
 }
 
 static void print_row(const char *name, const struct load *l, size_t repeats) {
   struct times t[KINDS];
-  measure(l, repeats, t);
+  struct spread s[QUOTIENTS];
+  measure(l, repeats, t, s);
   printf("| %s ", name);
   for (size_t k = 0; k < KINDS; k++) printf("| %.1f (%.1f) ", t[k].best, t[k].median);
-  const size_t over[3][2] = {{0, 2}, {1, 2}, {0, 3}};
-  for (size_t i = 0; i < 3; i++) printf("| %.2f (%.2f) ", t[over[i][0]].best / t[over[i][1]].best, t[over[i][0]].median / t[over[i][1]].median);
+  for (size_t q = 0; q < QUOTIENTS; q++) printf("| %.2f (%.2f to %.2f) ", s[q].half, s[q].quarter, s[q].three_quarters);
   printf("|\n");
   fflush(stdout);
 }
