@@ -39,7 +39,13 @@ fn mask(base: usize, u: usize, e: usize) -> u64
     ensures { λ r. ⌜ r ≡ 2 ^ within base e - 2 ^ within base u ⌝ }
 {
     let hi = place(e, base);
+    if hi == 0 {
+        return 0;
+    }
     let lo = place(u, base);
+    if lo == 64 {
+        return 0;
+    }
     below(hi) - below(lo)
 }
 

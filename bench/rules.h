@@ -1,0 +1,175 @@
+// The slot table of the scope document in plain C, changed in place. The file that includes this one says what 256 marks
+// are (Marks) and how they are read and set; everything else is the same for both.
+#include "bench.h"
+#include <string.h>
+
+struct address {
+  uint8_t kind; // 0 absent, 1 short, 2 extended
+  uint64_t number;
+};
+
+struct key {
+  struct address src, dst;
+  uint16_t size, tag;
+};
+
+struct slot {
+  bool live;
+  struct key key;
+  uint64_t since;
+  bool elided;
+  Marks covered; // units that were taken
+  Marks starts;  // units at which a part that was taken starts
+};
+
+struct table {
+  struct slot slots[8];
+  uint64_t last;
+  struct address gateways[4];
+};
+
+static bool same_address(const struct address *a, const struct address *b) {
+  return a->kind == b->kind && a->number == b->number;
+}
+
+static bool same_key(const struct key *a, const struct key *b) {
+  return same_address(&a->src, &b->src) && same_address(&a->dst, &b->dst) && a->size == b->size && a->tag == b->tag;
+}
+
+static void free_slot(struct slot *s) { memset(s, 0, sizeof *s); }
+
+// The opening rule.
+
+static size_t held(const struct table *t, const struct address *gateway) {
+  size_t n = 0;
+  for (size_t i = 0; i < 8; i++)
+    if (t->slots[i].live && same_address(&t->slots[i].key.src, gateway)) n++;
+  return n;
+}
+
+static size_t free_slots(const struct table *t) {
+  size_t n = 0;
+  for (size_t i = 0; i < 8; i++)
+    if (!t->slots[i].live) n++;
+  return n;
+}
+
+static size_t lowest_free(const struct table *t) {
+  for (size_t i = 0; i < 8; i++)
+    if (!t->slots[i].live) return i;
+  return 8;
+}
+
+static size_t idle_others(const struct table *t, const struct address *gateway) {
+  size_t n = 0;
+  for (size_t i = 0; i < 4; i++) {
+    const struct address *other = &t->gateways[i];
+    if (other->kind != 0 && !same_address(other, gateway) && held(t, other) == 0) n++;
+  }
+  return n;
+}
+
+// The slot that a gateway may open, or 8.
+static size_t to_open(const struct table *t, const struct address *gateway) {
+  size_t own = held(t, gateway);
+  if (own == 0) return lowest_free(t);
+  if (own < 3 && idle_others(t, gateway) < free_slots(t)) return lowest_free(t);
+  return 8;
+}
+
+// A part and one slot.
+
+static size_t units(size_t bytes) { return (bytes + 7) / 8; }
+
+// Check 10.
+static bool fits(size_t size, size_t at, size_t n) {
+  if (size < 40 || size > 2047 || n == 0 || at + n > size) return false;
+  return n % 8 == 0 || at + n == size;
+}
+
+// Whether a part that was taken lies exactly from unit u to unit e.
+static bool is_span(const struct slot *s, size_t u, size_t e) {
+  if (!marked(&s->starts, u) || has_mark(&s->covered, false, u, e) || has_mark(&s->starts, true, u + 1, e)) return false;
+  return e == 256 || !marked(&s->covered, e) || marked(&s->starts, e);
+}
+
+// The checksum of RFC 768 over the whole datagram, at its place.
+static void put_checksum(uint8_t *d, size_t n) {
+  if (n < 48) return;
+  d[46] = d[47] = 0;
+  uint64_t sum = n - 40 + 17;
+  for (size_t i = 8; i + 1 < n; i += 2) sum += (uint64_t)d[i] << 8 | d[i + 1];
+  if (n % 2) sum += (uint64_t)d[n - 1] << 8;
+  while (sum >> 16) sum = (sum & 0xffff) + (sum >> 16);
+  if (sum != 0xffff) sum = 0xffff - sum;
+  d[46] = (uint8_t)(sum >> 8);
+  d[47] = (uint8_t)sum;
+}
+
+// Takes a part that touches nothing taken; full cover hands the datagram out and frees the slot.
+static uint64_t place(struct slot *s, uint8_t *room, const struct call *c, uint8_t *out) {
+  size_t u = c->offset, size = c->size;
+  memcpy(room + 8 * u, c->part.at, c->part.size);
+  mark(&s->covered, u, u + units(c->part.size));
+  mark(&s->starts, u, u + 1);
+  if (u == 0) s->elided = c->elided;
+  if (has_mark(&s->covered, false, 0, units(size))) return KEPT;
+  memcpy(out, room, size);
+  if (s->elided) put_checksum(out, size);
+  free_slot(s);
+  return OUT + size;
+}
+
+static uint64_t offer(struct slot *s, uint8_t *room, const struct call *c, uint8_t *out) {
+  size_t u = c->offset, e = u + units(c->part.size);
+  if (is_span(s, u, e) && memcmp(room + 8 * u, c->part.at, c->part.size) == 0) return KEPT;
+  if (has_mark(&s->covered, true, u, e)) {
+    free_slot(s);
+    return CLASH;
+  }
+  return place(s, room, c, out);
+}
+
+static bool is_gateway(const struct table *t, const struct address *a) {
+  for (size_t i = 0; i < 4; i++)
+    if (t->gateways[i].kind != 0 && same_address(&t->gateways[i], a)) return true;
+  return false;
+}
+
+static uint64_t receive_at(struct table *t, uint64_t time, const struct call *c, const struct lent *l) {
+  if (l->mem.size < 16384 || l->out.size < 2047) return NO_ROOM;
+  if (time < t->last) return EARLIER;
+  t->last = time;
+  for (size_t i = 0; i < 8; i++)
+    if (t->slots[i].live && time - t->slots[i].since >= 60000) free_slot(&t->slots[i]);
+  struct key key = {.src = {1, c->src}, .dst = {1, c->dst}, .size = c->size, .tag = c->tag};
+  if (!is_gateway(t, &key.src)) return NOT_GATEWAY;
+  if (!fits(c->size, (size_t)c->offset * 8, c->part.size)) return BAD_PART;
+  for (size_t i = 0; i < 8; i++)
+    if (t->slots[i].live && same_key(&t->slots[i].key, &key)) return offer(&t->slots[i], l->mem.at + 2048 * i, c, l->out.at);
+  size_t i = to_open(t, &key.src);
+  if (i == 8) return NO_SLOT;
+  struct slot *s = &t->slots[i];
+  free_slot(s);
+  s->live = true;
+  s->key = key;
+  s->since = time;
+  return place(s, l->mem.at + 2048 * i, c, l->out.at);
+}
+
+static void fresh(void *table) {
+  struct table *t = table;
+  memset(t, 0, sizeof *t);
+  for (size_t i = 0; i < 4; i++) t->gateways[i] = (struct address){1, i + 1};
+}
+
+static uint64_t receive(void *table, const struct call *c, const struct lent *l) { return receive_at(table, c->time, c, l); }
+
+static uint64_t run(void *table, const struct calls *first, const struct calls *lap, size_t laps, const struct lent *l) {
+  uint64_t sum = 0;
+  fresh(table);
+  for (size_t i = 0; i < first->count; i++) sum += receive_at(table, 0, &first->of[i], l);
+  for (size_t k = 1; k <= laps; k++)
+    for (size_t i = 0; i < lap->count; i++) sum += receive_at(table, k, &lap->of[i], l);
+  return sum;
+}
