@@ -43,7 +43,7 @@ on-go false s l w h =
 left-on : (s : List ℕ) (l : ℕ) → l ≤ length s → drop 512 (left s l) ≡ left s (l - 512)
 left-on s l h = drop-drop 512 (length s - l) s ∙ on-go (leb 512 l) s l refl h
 
-cut : (s : List ℕ) → 0 < length s → blocksOf s ≡ take 512 s ∷ blocksOf (drop 512 s)
+pub cut : (s : List ℕ) → 0 < length s → blocksOf s ≡ take 512 s ∷ blocksOf (drop 512 s)
 unfolding pieces
 cut s h =
     let e : (length s + 511) / 512 ≡ suc ((length (drop 512 s) + 511) / 512) = omega (arith, length-drop 512 s) in

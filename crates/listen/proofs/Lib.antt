@@ -2,3 +2,5 @@ pub mod Decimals
 pub mod Writing
 pub mod Hearing
 pub mod Blocks
+pub mod Examples
+pub mod Promises
