@@ -4,3 +4,4 @@ pub mod Hearing
 pub mod Blocks
 pub mod Examples
 pub mod Promises
+pub mod Room

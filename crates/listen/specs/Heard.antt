@@ -107,7 +107,7 @@ hearAll x s = hearBlocks x (blocksOf s)
 abbrev pub lastLine : Told → List ℕ
 lastLine q = endLine (q .after .ear .frames)
 
--- the memory is zeros at first; what stands in the output changes nothing
+-- the memory and the output are zeros at first
 unfoldable pub beginning : Listener
 beginning = record { ear = starting; mem = replicate 16384 0; out = replicate 2047 0 }
 
