@@ -2,7 +2,7 @@
 """Writes the examples: for each a text of frames, the capture that make-capture makes of it, and the lines model.py says.
 
     examples.py write     writes them
-    examples.py check     makes them anew and compares
+    examples.py check     makes them anew and compares; where target/bin/heard is built, has it read them too
 """
 
 import os
@@ -13,7 +13,9 @@ import sys
 import frames as f
 import model
 
-FOLDER = os.path.join(os.path.dirname(os.path.abspath(__file__)), "..", "examples")
+TOP = os.path.join(os.path.dirname(os.path.abspath(__file__)), "..")
+FOLDER = os.path.join(TOP, "examples")
+HEARD = os.path.join(TOP, "target", "bin", "heard")
 
 CONTROLLER = f.short(0xabcd)
 LAST_MONTH, THIS_MONTH, NEIGHBOUR = f.short(1), f.short(2), f.short(0x1234)
@@ -91,6 +93,13 @@ def damaged():
 EXAMPLES = {"patch": patch, "two-gateways": two_gateways, "damaged": damaged}
 
 
+def printed(capture):
+    """What the program prints of a capture; None where it is not built."""
+    if not os.path.exists(HEARD):
+        return None
+    return subprocess.run([HEARD], input=capture, stdout=subprocess.PIPE, check=True).stdout
+
+
 def main(arguments):
     if arguments not in (["write"], ["check"]):
         sys.exit(__doc__)
@@ -100,6 +109,9 @@ def main(arguments):
         capture = subprocess.run([os.path.join(FOLDER, "make-capture")], input=text.encode(), stdout=subprocess.PIPE,
                                  check=True).stdout
         expected = "\n".join(model.heard(capture)) + "\n"
+        if printed(capture) not in (None, expected.encode()):
+            print(f"heard prints other lines for {name}.cap than model.py")
+            wrong = 1
         for ending, data in ((".txt", text.encode()), (".cap", capture), (".expected", expected.encode())):
             path = os.path.join(FOLDER, name + ending)
             if arguments == ["write"]:
@@ -111,7 +123,8 @@ def main(arguments):
                         print(f"{name}{ending} is not what examples.py writes")
                         wrong = 1
     if not wrong:
-        print("written" if arguments == ["write"] else f"{len(EXAMPLES)} examples as written")
+        read = ", and heard prints their lines" if os.path.exists(HEARD) else ""
+        print("written" if arguments == ["write"] else f"{len(EXAMPLES)} examples as written{read}")
     sys.exit(wrong)
 
 

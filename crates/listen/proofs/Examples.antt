@@ -1,0 +1,171 @@
+-- The scope document's printed example: one block with two frames at time 0, and its three lines.
+use Prim.Native.Nat.{ℕ, zero, suc, _+_, _/_, _≤_, _<_}
+use native.Mathlib.Nat.{not-suc-le-zero}
+use native.Mathlib.Omega.{arith}
+use mathlib.Core.Bool.{Bool, true, false, _||_}
+use mathlib.Core.List.{List, [], _∷_, _++_, append-nil}
+use mathlib.Core.Path.{_≡_, refl, sym, ap, _∙_}
+use lib.Dec.{ltb}
+use lib.ListN.{length, getD, take, replicate, length-replicate}
+use lib.Seq.{take-length}
+use borrow.Author.Tests.{le-ltb}
+use Rattle.octets.specs.Read.{Answer, is, refused, andThen, choose, byte, le16}
+use Rattle.octets.specs.Write.{put}
+use Rattle.capture.specs.Block.{Timed, countOf, framesOf, goodBlock}
+use Rattle.capture.specs.Made.{noFrame, blockOf, Fits, Holds}
+use Rattle.capture.proofs.BlockSteps.{count-whole}
+use Rattle.capture.proofs.Parts.{bytes-cons, bytes-nil}
+use Rattle.capture.proofs.Made.{made-count, made-good, made-frames}
+use Rattle.ieee802154.specs.Control.{supported, hasSequence, hasAddressing, carried01, carried}
+use Rattle.ieee802154.specs.Addressing.{panField, addressField, side, sides, addressing}
+use Rattle.ieee802154.specs.Security.{auxiliary}
+use Rattle.ieee802154.specs.Mac.{sequenceOf, reprOf, headerRest, header, mac}
+use Rattle.ieee802154.specs.declared.addr.Address.the-variants.{Short}
+use Rattle.sixlowpan.specs.Dispatch.{dispatchOf, dispatch}
+use Rattle.expand.specs.Expand.{Expansion}
+use Rattle.expand.proofs.CopyLaws.{length-put}
+use Rattle.expand.proofs.Examples.{printed-example}
+use Rattle.incoming.specs.Incoming.{arrival, datagram, whole, payload}
+use Rattle.reassembly.specs.Lists.{count, those}
+use Rattle.reassembly.specs.Slots.{nodeOf, noNode, noKey, sameNode, present, freeSlot, expired, expire1, expire, gatesOf, isGate}
+use Rattle.reassembly.specs.Parts as Parts
+use Rattle.reassembly.specs.Parts.{Reply, outputAfter}
+use Rattle.reassembly.specs.Table.{State, Result, other, slotsAt, aged, withSlots, pass, step, lentCall}
+use Rattle.reassembly.specs.Fresh.{seats, fresh}
+use Rattle.reassembly.specs.declared.slot.Node.{Node}
+use Rattle.receiver.specs.Receive.{welcome, admitted, brings, frameCall, callOf}
+use Rattle.listen.specs.Lines.{widthIn, decimal, endLine}
+use Rattle.listen.specs.Heard.{Listener, Told, received, afterFrame, saidOf, afterFrames, saidOfAll, hearBlock, starting, pieces, blocksOf, joined, thenHeard, hearBlocks, hearAll, lastLine, beginning, heard}
+
+-- ---- the frames: from 0001, and the same from 1234
+abbrev frameFrom : ℕ → ℕ → Timed
+frameFrom lo hi = record {
+  time = 0;
+  frame = 0x41 ∷ 0x88 ∷ 0x05 ∷ 0xcd ∷ 0xab ∷ 0xff ∷ 0xff ∷ lo ∷ hi ∷ 0x7a ∷ 0x33 ∷ 0x3a ∷ 0x01 ∷ 0x02 ∷ 0x03 ∷ 0x04 ∷ [];
+}
+
+abbrev pub frames : List Timed
+frames = frameFrom 0x01 0x00 ∷ frameFrom 0x34 0x12 ∷ []
+
+abbrev gates : List Node
+gates = nodeOf (Short 1) ∷ nodeOf (Short 2) ∷ nodeOf (Short 3) ∷ nodeOf (Short 4) ∷ []
+
+-- the datagram of the first: fe80::ff:fe00:1 to fe80::ff:fe00:ffff, and four bytes of ICMPv6
+abbrev handed : List ℕ
+handed =
+    0x60 ∷ 0x00 ∷ 0x00 ∷ 0x00 ∷ 0x00 ∷ 0x04 ∷ 0x3a ∷ 0x40
+    ∷ 0xfe ∷ 0x80 ∷ 0x00 ∷ 0x00 ∷ 0x00 ∷ 0x00 ∷ 0x00 ∷ 0x00 ∷ 0x00 ∷ 0x00 ∷ 0x00 ∷ 0xff ∷ 0xfe ∷ 0x00 ∷ 0x00 ∷ 0x01
+    ∷ 0xfe ∷ 0x80 ∷ 0x00 ∷ 0x00 ∷ 0x00 ∷ 0x00 ∷ 0x00 ∷ 0x00 ∷ 0x00 ∷ 0x00 ∷ 0x00 ∷ 0xff ∷ 0xfe ∷ 0x00 ∷ 0xff ∷ 0xff
+    ∷ 0x01 ∷ 0x02 ∷ 0x03 ∷ 0x04 ∷ []
+
+brought : frameCall gates [] 0 (frameFrom 0x01 0x00 .frame) ≡ other 0 (Parts.out handed)
+unfolding frameCall admitted welcome arrival payload whole dispatch dispatchOf mac header byte le16 headerRest supported addressing hasAddressing sides side carried carried01 panField addressField auxiliary reprOf sequenceOf hasSequence isGate sameNode present count
+brought =
+    ap (λ (e : Answer Expansion). brings 0 (record { src = Short 1; dst = Short 0xffff; at = 9 }) (andThen e (λ (x : Expansion). is (datagram (x .bytes))))) printed-example
+
+turned-away : frameCall gates [] 0 (frameFrom 0x34 0x12 .frame) ≡ other 0 (Parts.refused 9)
+unfolding frameCall admitted welcome arrival mac header byte le16 headerRest supported addressing hasAddressing sides side carried carried01 panField addressField auxiliary reprOf sequenceOf hasSequence isGate sameNode present count
+turned-away = refl
+
+-- "1 out 44", "2 no 9"
+abbrev lines : List (List ℕ)
+lines =
+    (0x31 ∷ 0x20 ∷ 0x6f ∷ 0x75 ∷ 0x74 ∷ 0x20 ∷ 0x34 ∷ 0x34 ∷ 0x0a ∷ [])
+    ∷ (0x32 ∷ 0x20 ∷ 0x6e ∷ 0x6f ∷ 0x20 ∷ 0x39 ∷ 0x0a ∷ []) ∷ []
+
+-- ---- what they come to at the beginning
+module _ (m : List ℕ) (M : 16384 ≤ length m) where
+  abbrev after : ℕ → List ℕ → Listener
+  after n o = record { ear = record { table = starting .table; frames = n; block = 0 }; mem = m; out = o }
+
+  abbrev passed : Reply (List ℕ) → Result
+  passed a = record { reply = a; state = record { table = starting .table; mem = m }; opens = 0; ends = 0; took = false }
+
+  nothing-kept : (a : Reply (List ℕ)) → step (record { table = starting .table; mem = m }) (other 0 a) ≡ passed a
+  unfolding step pass withSlots slotsAt aged expire expire1 expired count starting fresh seats freeSlot noKey noNode
+  nothing-kept a = refl
+
+  module _ (n : ℕ) (o : List ℕ) (O : 2047 ≤ length o) (f : List ℕ) (a : Reply (List ℕ)) (C : frameCall gates [] 0 f ≡ other 0 a) where
+    came : received (after n o) (record { time = 0; frame = f }) ≡ passed a
+    unfolding received callOf lentCall gatesOf those present starting fresh seats
+    came = rw (le-ltb (length m) 16384 M, le-ltb (length o) 2047 O, C) (nothing-kept a)
+
+  module _ (o : List ℕ) (O : 2047 ≤ length o) where
+    o′ : List ℕ
+    o′ = put 0 handed o
+
+    O′ : 2047 ≤ length o′
+    unfolding o′
+    O′ = omega (arith, length-put 0 handed o)
+
+    first : received (after 0 o) (frameFrom 0x01 0x00) ≡ passed (Parts.out handed)
+    first = came 0 o O (frameFrom 0x01 0x00 .frame) (Parts.out handed) brought
+
+    second : received (after 1 o′) (frameFrom 0x34 0x12) ≡ passed (Parts.refused 9)
+    second = came 1 o′ O′ (frameFrom 0x34 0x12 .frame) (Parts.refused 9) turned-away
+
+    after-first : afterFrame (after 0 o) (frameFrom 0x01 0x00) ≡ after 1 o′
+    unfolding afterFrame o′
+    after-first = rw first refl
+
+    after-second : afterFrame (after 1 o′) (frameFrom 0x34 0x12) ≡ after 2 o′
+    unfolding afterFrame
+    after-second = rw second refl
+
+    said : saidOfAll (after 0 o) frames ≡ lines
+    unfolding saidOfAll saidOf decimal widthIn
+    said = rw (after-first, first, second) refl
+
+    ended : afterFrames (after 0 o) frames ≡ after 2 o′
+    unfolding afterFrames
+    ended = rw (after-first, after-second) refl
+
+-- ---- the block
+each : (k : ℕ) → k < length frames → length (getD frames k noFrame .frame) ≤ 127
+each zero h = omega arith
+each (suc zero) h = omega arith
+each (suc (suc k)) h = absurd (omega (arith, h))
+
+few : length frames ≤ 3
+few = omega arith
+
+abbrev pub block : List ℕ
+block = blockOf 0 frames
+
+long : length block ≡ 512
+long = count-whole block 0 (rw (made-count 0 frames few each) (omega arith))
+
+one-block : blocksOf block ≡ block ∷ []
+unfolding pieces
+one-block =
+    let e : (length block + 511) / 512 ≡ 1 = omega (arith, long) in
+    ap (λ n. pieces n block) e ∙ ap (λ n. take n block ∷ []) (sym long) ∙ ap (λ l. l ∷ []) (take-length block)
+
+-- what it says to whoever begins with memory and output enough
+module _ (m o : List ℕ) (M : 16384 ≤ length m) (O : 2047 ≤ length o) where
+  abbrev begun : Listener
+  begun = record { ear = starting; mem = m; out = o }
+
+  abbrev told : Told
+  told = record { after = record { ear = record { table = starting .table; frames = 2; block = 1 }; mem = m; out = put 0 handed o }; said = lines; more = true }
+
+  heard-block : hearBlock begun block ≡ told
+  unfolding hearBlock starting o′
+  heard-block = rw (made-good 0 frames few each, made-frames 0 frames few each, ended m M o O, said m M o O) refl
+
+  heard-all : hearAll begun block ≡ told
+  unfolding hearBlocks
+  heard-all = rw (one-block, heard-block) refl
+
+-- "1 out 44", "2 no 9", "end 2"
+pub printed : heard block ≡
+    0x31 ∷ 0x20 ∷ 0x6f ∷ 0x75 ∷ 0x74 ∷ 0x20 ∷ 0x34 ∷ 0x34 ∷ 0x0a
+    ∷ 0x32 ∷ 0x20 ∷ 0x6e ∷ 0x6f ∷ 0x20 ∷ 0x39 ∷ 0x0a
+    ∷ 0x65 ∷ 0x6e ∷ 0x64 ∷ 0x20 ∷ 0x32 ∷ 0x0a ∷ []
+unfolding heard beginning joined decimal widthIn
+printed =
+    let zeros : ℕ → List ℕ = λ n. replicate n 0 in
+    let z : ℕ = 0 in
+    let M : 16384 ≤ length (zeros 16384) = omega (arith, length-replicate 16384 z) in
+    let O : 2047 ≤ length (zeros 2047) = omega (arith, length-replicate 2047 z) in
+    ap (λ (q : Told). joined (q .said) ++ lastLine q) (heard-all (zeros 16384) (zeros 2047) M O)

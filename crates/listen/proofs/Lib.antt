@@ -1,0 +1,7 @@
+pub mod Decimals
+pub mod Writing
+pub mod Hearing
+pub mod Blocks
+pub mod Examples
+pub mod Promises
+pub mod Room

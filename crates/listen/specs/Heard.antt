@@ -1,0 +1,125 @@
+-- What a capture says (the scope document, "Capture blocks and the program"): its blocks in order from number 0, the frames of each good one
+-- given to the receiver at their times, a line for each frame, and a last line.
+use Prim.Native.Nat.{ℕ, zero, suc, _+_, _/_, _%_, _^_}
+use mathlib.Core.Bool.{Bool, true, false}
+use mathlib.Core.Path.{_≡_}
+use mathlib.Core.List.{List, [], _∷_, _++_}
+use lib.ListN.{length, take, drop, replicate}
+use Rattle.octets.specs.Read.{choose}
+use Rattle.ieee802154.specs.declared.addr.Address.{Address}
+use Rattle.ieee802154.specs.declared.addr.Address.the-variants.{Short}
+use Rattle.capture.specs.Block.{Timed, framesOf, goodBlock}
+use Rattle.reassembly.specs.Slots.{nodeOf, gatesOf}
+use Rattle.reassembly.specs.Parts.{told, outputAfter}
+use Rattle.reassembly.specs.Table.{Result, step}
+use Rattle.reassembly.specs.Fresh.{fresh}
+use Rattle.receiver.specs.Receive.{callOf}
+use Rattle.listen.specs.Lines.{frameLine, badLine, endLine, Page, putLines}
+use Rattle.listen.specs.declared.ear.Ear.{Ear}
+use Rattle.listen.specs.declared.ear.Heard.{Heard}
+
+-- who listens: the table and the counts, the lent memory, and the output
+pub record Listener : Type 0 where
+  pub ear : Ear
+  pub mem : List ℕ
+  pub out : List ℕ
+
+-- one more, in 64 bits. No capture has so many blocks that a count comes to its end: block numbers have 32 bits.
+abbrev pub next : ℕ → ℕ
+next n = (n + 1) % 2 ^ 64
+
+-- ---- a frame
+-- what the receiver makes of it: there are no contexts
+unfoldable pub received : Listener → Timed → Result
+received x f =
+    step (record { table = x .ear .table; mem = x .mem }) (callOf (x .mem) (x .out) (gatesOf (x .ear .table)) [] (f .time) (f .frame))
+
+unfoldable pub afterFrame : Listener → Timed → Listener
+afterFrame x f = record {
+  ear = record { table = received x f .state .table; frames = next (x .ear .frames); block = x .ear .block };
+  mem = received x f .state .mem;
+  out = outputAfter (received x f .reply) (x .out);
+}
+
+-- the frames are numbered from 1 over the whole capture
+unfoldable pub saidOf : Listener → Timed → List ℕ
+saidOf x f = frameLine (next (x .ear .frames)) (told (received x f .reply))
+
+-- ---- frames, one after the other
+unfoldable pub afterFrames : Listener → List Timed → Listener
+afterFrames x [] = x
+afterFrames x (f ∷ fs) = afterFrames (afterFrame x f) fs
+
+unfoldable pub saidOfAll : Listener → List Timed → List (List ℕ)
+saidOfAll x [] = []
+saidOfAll x (f ∷ fs) = saidOf x f ∷ saidOfAll (afterFrame x f) fs
+
+-- ---- a block
+-- who listens after it, its lines, and whether reading goes on
+pub record Told : Type 0 where
+  pub after : Listener
+  pub said : List (List ℕ)
+  pub more : Bool
+
+abbrev pub blockOn : Listener → Listener
+blockOn x = record { ear = record { table = x .ear .table; frames = x .ear .frames; block = next (x .ear .block) }; mem = x .mem; out = x .out }
+
+-- a good block of the number that is due; at any other nothing is received
+unfoldable pub hearBlock : Listener → List ℕ → Told
+hearBlock x s =
+    choose (goodBlock (x .ear .block) s)
+    (record { after = blockOn (afterFrames x (framesOf s)); said = saidOfAll x (framesOf s); more = true })
+    (record { after = x; said = badLine (x .ear .block) ∷ []; more = false })
+
+-- ---- a capture
+-- the gateways
+abbrev pub gateways : List Address
+gateways = Short 0x0001 ∷ Short 0x0002 ∷ Short 0x0003 ∷ Short 0x0004 ∷ []
+
+-- at the beginning
+unfoldable pub starting : Ear
+starting = record { table = fresh (nodeOf (Short 1) ∷ nodeOf (Short 2) ∷ nodeOf (Short 3) ∷ nodeOf (Short 4) ∷ []); frames = 0; block = 0 }
+
+-- n pieces of 512 bytes, the last one of what is left
+unfoldable pub pieces : ℕ → List ℕ → List (List ℕ)
+pieces zero s = []
+pieces (suc n) s = take 512 s ∷ pieces n (drop 512 s)
+
+abbrev pub blocksOf : List ℕ → List (List ℕ)
+blocksOf s = pieces ((length s + 511) / 512) s
+
+unfoldable pub joined : List (List ℕ) → List ℕ
+joined [] = []
+joined (t ∷ ts) = t ++ joined ts
+
+-- what follows is heard where reading goes on
+abbrev pub thenHeard : Told → Told → Told
+thenHeard a b = choose (a .more) (record { after = b .after; said = a .said ++ b .said; more = b .more }) a
+
+-- block after block, up to the first bad one
+unfoldable pub hearBlocks : Listener → List (List ℕ) → Told
+hearBlocks x [] = record { after = x; said = []; more = true }
+hearBlocks x (s ∷ ss) = thenHeard (hearBlock x s) (hearBlocks (hearBlock x s .after) ss)
+
+abbrev pub hearAll : Listener → List ℕ → Told
+hearAll x s = hearBlocks x (blocksOf s)
+
+abbrev pub lastLine : Told → List ℕ
+lastLine q = endLine (q .after .ear .frames)
+
+-- the memory and the output are zeros at first
+unfoldable pub beginning : Listener
+beginning = record { ear = starting; mem = replicate 16384 0; out = replicate 2047 0 }
+
+-- what the program prints of the capture s: the lines of its frames, where a block is bad a line that says so, and the last line
+unfoldable pub heard : List ℕ → List ℕ
+heard s = joined (hearAll beginning s .said) ++ lastLine (hearAll beginning s)
+
+-- ---- what the contract says
+-- the answer r, the lent memory m, the output o and the text x, x₀ before from the place at, are as q says
+pub record Hears (r : Heard) (m o x₀ x : List ℕ) (at : ℕ) (q : Told) : Type 0 where
+  pub ear : r .ear ≡ q .after .ear
+  pub memory : m ≡ q .after .mem
+  pub output : o ≡ q .after .out
+  pub more : r .more ≡ q .more
+  pub text : _≡_ {A = Page} (record { room = x; at = r .next }) (putLines (q .said) (record { room = x₀; at = at }))

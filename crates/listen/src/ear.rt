@@ -1,0 +1,181 @@
+// Who listens to a capture, block by block (the scope document, "Capture blocks and the program").
+ghost use mathlib.Core.Path.{_≡_};
+ghost use Prim.Native.Nat.{_-_};
+ghost use lib.ListN.{take, drop};
+ghost use Rattle.capture.specs.Block.{countOf, framesOf};
+ghost use mathlib.Core.Bool.{true};
+ghost use Rattle.listen.specs.Heard.{starting, afterFrames, saidOfAll, hearBlock, hearAll, Hears};
+use super::line::put_bad;
+use super::line::put_frame;
+use capture::block::BLOCK;
+use capture::block::Judged;
+use capture::block::frame;
+use capture::block::judge;
+use capture::block::time;
+use ieee802154::Address;
+use reassembly::Table;
+use receiver::receive;
+use std::num::wrapping_add_u64;
+
+// The slot table, how many frames were received, and the number of the block that is due.
+pub struct Ear {
+    pub table: Table,
+    pub frames: u64,
+    pub block: u64,
+}
+
+// What a block came to: who listens on, whether reading goes on, and the place after the lines.
+pub struct Heard {
+    pub ear: Ear,
+    pub more: bool,
+    pub next: usize,
+}
+
+impl Ear {
+    // At the beginning of a capture.
+    pub fn new() -> Ear
+        ensures { λ r. ⌜ r ≡ starting ⌝ }
+    {
+        let gateways = [
+            Address::Short(1),
+            Address::Short(2),
+            Address::Short(3),
+            Address::Short(4),
+        ];
+        let fresh = Table::new(gateways, 4);
+        let table = fresh.table;
+        Ear {
+            table,
+            frames: 0,
+            block: 0,
+        }
+    }
+}
+
+// The first n frames of a block, one after the other.
+fn hear_frames(
+    ear: Ear,
+    block: &[u8],
+    n: usize,
+    mem: &mut [u8],
+    out: &mut [u8],
+    text: &mut [u8],
+    at: usize,
+) -> Heard
+    requires { ⌜ n ≡ countOf (now block) ⌝ }
+    ensures { λ r. ⌜ Hears r (now (mem .exit)) (now (out .exit)) (now (text .entry)) (now (text .exit)) at (record { after = afterFrames (record { ear = ear; mem = now (mem .entry); out = now (out .entry) }) (framesOf (now (block .entry))); said = saidOfAll (record { ear = ear; mem = now (mem .entry); out = now (out .entry) }) (framesOf (now (block .entry))); more = true }) ⌝ }
+{
+    let mut e = ear;
+    let mut to = at;
+    let mut k: usize = 0;
+    while k < n {
+        let table = e.table;
+        let r = receive(
+            table,
+            time(block, k) as u64,
+            frame(block, k),
+            &block[0..0],
+            mem,
+            out,
+        );
+        let answer = r.answer;
+        let after = r.table;
+        e.table = after;
+        e.frames = wrapping_add_u64(e.frames, 1);
+        to = put_frame(text, to, e.frames, answer);
+        k += 1;
+    }
+    Heard {
+        ear: e,
+        more: true,
+        next: to,
+    }
+}
+
+// A block of 512 bytes, or the rest of a capture. Where it is the good block that is due, its frames are received in their order and
+// at their times, with the lent memory and output, and a line for each goes to `text` from `at` on; where it is not, one line says
+// so, and reading stops. A line that does not fit is left out.
+pub fn hear(
+    ear: Ear,
+    block: &[u8],
+    mem: &mut [u8],
+    out: &mut [u8],
+    text: &mut [u8],
+    at: usize,
+) -> Heard
+    ensures { λ r. ⌜ Hears r (now (mem .exit)) (now (out .exit)) (now (text .entry)) (now (text .exit)) at (hearBlock (record { ear = ear; mem = now (mem .entry); out = now (out .entry) }) (now (block .entry))) ⌝ }
+{
+    match judge(block, ear.block) {
+        Judged::Good(n) => {
+            let h = hear_frames(ear, block, n, mem, out, text, at);
+            let mut e = h.ear;
+            e.block = wrapping_add_u64(e.block, 1);
+            Heard {
+                ear: e,
+                more: true,
+                next: h.next,
+            }
+        }
+        Judged::Refused(_) => {
+            let next = put_bad(text, at, ear.block);
+            Heard {
+                ear,
+                more: false,
+                next,
+            }
+        }
+    }
+}
+
+// The block that begins at a place: 512 bytes, or what is left.
+fn block_at(s: &[u8], from: usize) -> &[u8]
+    ensures { λ r. ⌜ now r ≡ take 512 (drop from (now (s .entry))) ⌝ }
+{
+    if s.len() <= from {
+        return &s[0..0];
+    }
+    if s.len() - from < BLOCK {
+        return &s[from..s.len()];
+    }
+    &s[from..from + BLOCK]
+}
+
+// What is left behind a block.
+fn behind(left: usize) -> usize
+    ensures { λ r. ⌜ r ≡ left - 512 ⌝ }
+{
+    if left < BLOCK {
+        return 0;
+    }
+    left - BLOCK
+}
+
+// A capture, or a part of one that begins where a block does: block after block, up to the first bad one. What is left over behind
+// the whole blocks is a bad block.
+pub fn hear_all(
+    ear: Ear,
+    capture: &[u8],
+    mem: &mut [u8],
+    out: &mut [u8],
+    text: &mut [u8],
+    at: usize,
+) -> Heard
+    ensures { λ r. ⌜ Hears r (now (mem .exit)) (now (out .exit)) (now (text .entry)) (now (text .exit)) at (hearAll (record { ear = ear; mem = now (mem .entry); out = now (out .entry) }) (now (capture .entry))) ⌝ }
+{
+    let mut h = Heard {
+        ear,
+        more: true,
+        next: at,
+    };
+    let mut left = capture.len();
+    while 0 < left {
+        let e = h.ear;
+        let block = block_at(capture, capture.len() - left);
+        h = hear(e, block, mem, out, text, h.next);
+        if !h.more {
+            return h;
+        }
+        left = behind(left);
+    }
+    h
+}
