@@ -624,7 +624,7 @@ def heard(capture):
 # --------------------------------------------------------------------------------------------------- lines over a table
 
 def parse_address(text):
-    if re.fullmatch("s[0-9a-fA-F]{4}|e[0-9a-fA-F]{16}|a", text):
+    if re.fullmatch("s[0-9a-f]{4}|e[0-9a-f]{16}|a", text):
         return bytes.fromhex(text[1:])
     raise ValueError(text)
 
@@ -636,7 +636,7 @@ def address_text(address):
 def parse_bytes(text):
     if text == "-":
         return b""
-    if re.fullmatch("([0-9a-fA-F]{2})+", text):
+    if re.fullmatch("([0-9a-f]{2})+", text):
         return bytes.fromhex(text)
     raise ValueError(text)
 
@@ -660,7 +660,7 @@ def slots_text(table):
 class TableLines:
     """The line protocol over one table (README.md)."""
 
-    MOST_ROOM = 1 << 20
+    MOST_ROOM = 65536
 
     def __init__(self):
         self.table = None

@@ -118,6 +118,14 @@ def send(rng, count):
     return sent, order
 
 
+def datagrams_shown(pieces, one):
+    """The datagram that tshark shows for a frame, if the frame completes one."""
+    whole = [bytes(data) for name, data in pieces if name.startswith("Reassembled")]
+    if not whole and one.kind == "whole":
+        whole = [bytes(data) for name, data in pieces if name.startswith("Decompressed")][:1]
+    return whole
+
+
 def compare(sent, order, shown):
     """What model.py hands out against tshark's bytes for the same frame, and against what was sent."""
     table = model.Table(GATEWAYS)
@@ -125,10 +133,7 @@ def compare(sent, order, shown):
     handed, wrong, tally = [], 0, {}
     for i, (one, frame) in enumerate(order):
         answer = table.call(i, frame, b"".join(CONTEXTS), mem, out)
-        pieces = [piece for piece in shown[i] if piece[0] != "Frame"]
-        whole = [bytes(data) for name, data in pieces if name.startswith("Reassembled")]
-        if not whole and one.kind == "whole":
-            whole = [bytes(data) for name, data in pieces if name.startswith("Decompressed")][:1]
+        whole = datagrams_shown(shown[i], one)
         if answer[0] != "out":
             if answer != ("kept",) or whole:
                 wrong += 1

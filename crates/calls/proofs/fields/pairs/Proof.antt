@@ -1,0 +1,87 @@
+use Prim.Native.Nat.{_-_}
+use mathlib.Core.Path.{_≡_}
+use lib.ListN.{length}
+use borrow.Author.Needs.{needs}
+use Rattle.calls.proofs.fields.pairs.Statement.{statement}
+use Rattle.calls.proofs.fields.pairs.Tie as tie
+
+abbrev Inv-loop : tie.InvT-loop
+Inv-loop s room₀ worst₀ i₀ room worst i = length room ≡ length room₀
+
+abbrev μ-loop : tie.MeasureT-loop
+μ-loop s room₀ worst₀ i₀ room worst i = length room₀ - i
+
+returns : tie.Need-returns Inv-loop μ-loop
+returns c = search needs
+
+loop-holds : tie.Need-loop-holds Inv-loop μ-loop
+loop-holds c = search needs
+
+mul-nibble : tie.Need-mul-nibble Inv-loop μ-loop
+mul-nibble c = search needs
+
+shared-slice-read-nibble : tie.Need-shared-slice-read-nibble Inv-loop μ-loop
+shared-slice-read-nibble c = search needs
+
+nibble-requires : tie.Need-nibble-requires Inv-loop μ-loop
+nibble-requires c κs = search needs
+
+mul-nibble-2 : tie.Need-mul-nibble-2 Inv-loop μ-loop
+mul-nibble-2 c = search needs
+
+add-nibble : tie.Need-add-nibble Inv-loop μ-loop
+add-nibble c = search needs
+
+shared-slice-read-nibble-2 : tie.Need-shared-slice-read-nibble-2 Inv-loop μ-loop
+shared-slice-read-nibble-2 c = search needs
+
+nibble-requires-2 : tie.Need-nibble-requires-2 Inv-loop μ-loop
+nibble-requires-2 c κs = search needs
+
+mul-room : tie.Need-mul-room Inv-loop μ-loop
+mul-room c = search needs
+
+add-room : tie.Need-add-room Inv-loop μ-loop
+add-room c = search needs
+
+slice-write-room : tie.Need-slice-write-room Inv-loop μ-loop
+slice-write-room c = search needs
+
+add-i : tie.Need-add-i Inv-loop μ-loop
+add-i c = search needs
+
+loop-less : tie.Need-loop-less Inv-loop μ-loop
+loop-less c = search needs
+
+loop-again : tie.Need-loop-again Inv-loop μ-loop
+loop-again c = search needs
+
+same-length : tie.Need-same-length Inv-loop μ-loop
+same-length c = search needs
+
+returns-2 : tie.Need-returns-2 Inv-loop μ-loop
+returns-2 c = search needs
+
+pub pairs-spec : {M : Type 1} → statement M
+pairs-spec =
+    tie.close
+    (tie.spec
+    Inv-loop
+    μ-loop
+    returns
+    loop-holds
+    mul-nibble
+    shared-slice-read-nibble
+    nibble-requires
+    mul-nibble-2
+    add-nibble
+    shared-slice-read-nibble-2
+    nibble-requires-2
+    mul-room
+    add-room
+    slice-write-room
+    add-i
+    loop-less
+    loop-again
+    same-length
+    returns-2)

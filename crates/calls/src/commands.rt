@@ -1,0 +1,216 @@
+// What the lines do.
+use super::answer;
+use super::fields;
+use check::same;
+use ieee802154::Address;
+use octets::refusal::Refusal;
+use reassembly::Listed;
+use reassembly::Table;
+use receiver::receive;
+use text::line::find;
+use text::print;
+
+// The table, once a list of gateways was taken.
+pub struct Session {
+    pub table: Table,
+    pub made: bool,
+}
+
+// The table after a line, and the place behind its answer.
+pub struct Done {
+    pub session: Session,
+    pub to: usize,
+}
+
+// A call as its line says it. The frame stands at the front of the scratch room, and the contexts behind it.
+struct Request {
+    time: u64,
+    frame: usize,
+    contexts: usize,
+    mem: u64,
+    out: u64,
+    next: usize,
+}
+
+impl Session {
+    // There is no table yet.
+    pub fn start() -> Session {
+        let f = Table::new([Address::Absent; 4], 0);
+        let table = f.table;
+        Session { table, made: false }
+    }
+}
+
+fn bad(session: Session, out: &mut [u8], to: usize) -> Done {
+    Done {
+        session,
+        to: print::text(out, to, b"bad"),
+    }
+}
+
+// `gateways ADDR ADDR ..`: the table is made. Past the fourth address only how many there are counts, so any seat does for them.
+fn gateways(line: &[u8], from: usize, session: Session, out: &mut [u8], to: usize) -> Done {
+    let mut all = [Address::Absent; 4];
+    let mut count: usize = 0;
+    let mut next = from;
+    while count <= line.len() {
+        if line.len() < next {
+            break;
+        }
+        let a = fields::link(line, next);
+        let address = a.value;
+        all[count % 4] = address;
+        count += 1;
+        next = a.next;
+    }
+    if session.made {
+        return bad(session, out, to);
+    }
+    if !fields::ended(line, next) {
+        return bad(session, out, to);
+    }
+    let f = Table::new(all, count);
+    let answer = f.answer;
+    match answer {
+        Listed::Accepted => {
+            let table = f.table;
+            Done {
+                session: Session { table, made: true },
+                to: print::text(out, to, b"ok"),
+            }
+        }
+        Listed::Refused(e) => Done {
+            session,
+            to: answer::refused(out, to, e),
+        },
+    }
+}
+
+// The fields of `call TIME FRAME CONTEXTS MEMLEN OUTLEN`.
+fn read_request(line: &[u8], from: usize, scratch: &mut [u8]) -> Request {
+    let time = fields::decimal(line, from);
+    let frame = fields::bytes(line, time.next, scratch, 0);
+    let contexts = fields::bytes(line, frame.next, scratch, frame.count);
+    let mem = fields::decimal(line, contexts.next);
+    let out = fields::decimal(line, mem.next);
+    Request {
+        time: time.value,
+        frame: frame.count,
+        contexts: contexts.count,
+        mem: mem.value,
+        out: out.value,
+        next: out.next,
+    }
+}
+
+// A call on the table, and its answer.
+fn receive_frame(
+    table: Table,
+    r: Request,
+    scratch: &[u8],
+    lent: &mut [u8],
+    datagram: &mut [u8],
+    out: &mut [u8],
+    to: usize,
+) -> Done {
+    let frame = fields::part(scratch, 0, r.frame);
+    let contexts = fields::part(scratch, r.frame, r.contexts);
+    let got = receive(table, r.time, frame, contexts, lent, datagram);
+    let answer = got.answer;
+    let after = got.table;
+    let n = answer::outcome(out, to, answer, datagram);
+    Done {
+        session: Session {
+            table: after,
+            made: true,
+        },
+        to: answer::slots(out, n, after),
+    }
+}
+
+// `call ..`: so much of the memory and of the output is lent as the line says.
+fn call(
+    line: &[u8],
+    from: usize,
+    session: Session,
+    scratch: &mut [u8],
+    lent: &mut [u8],
+    datagram: &mut [u8],
+    out: &mut [u8],
+    to: usize,
+) -> Done {
+    let r = read_request(line, from, scratch);
+    if !session.made {
+        return bad(session, out, to);
+    }
+    if !fields::ended(line, r.next) {
+        return bad(session, out, to);
+    }
+    let mem = r.mem as usize;
+    if lent.len() < mem {
+        return bad(session, out, to);
+    }
+    let room = r.out as usize;
+    if datagram.len() < room {
+        return bad(session, out, to);
+    }
+    let table = session.table;
+    receive_frame(
+        table,
+        r,
+        scratch,
+        &mut lent[0..mem],
+        &mut datagram[0..room],
+        out,
+        to,
+    )
+}
+
+// A line that is no remark.
+fn command(
+    line: &[u8],
+    session: Session,
+    scratch: &mut [u8],
+    lent: &mut [u8],
+    datagram: &mut [u8],
+    out: &mut [u8],
+    to: usize,
+) -> Done {
+    let end = find(line, 0, b' ');
+    if line.len() < end {
+        return bad(session, out, to);
+    }
+    let name = &line[0..end];
+    if same(name, b"gateways") {
+        return gateways(line, end + 1, session, out, to);
+    }
+    if same(name, b"call") {
+        return call(line, end + 1, session, scratch, lent, datagram, out, to);
+    }
+    bad(session, out, to)
+}
+
+// Puts the answer to a line, and its end.
+pub fn answer_line(
+    line: &[u8],
+    session: Session,
+    scratch: &mut [u8],
+    lent: &mut [u8],
+    datagram: &mut [u8],
+    out: &mut [u8],
+    to: usize,
+) -> Done {
+    if fields::at(line, 0) == b'#' {
+        let n = print::text(out, to, line);
+        return Done {
+            session,
+            to: print::put(out, n, b'\n'),
+        };
+    }
+    let d = command(line, session, scratch, lent, datagram, out, to);
+    let after = d.session;
+    Done {
+        session: after,
+        to: print::put(out, d.to, b'\n'),
+    }
+}
