@@ -20,6 +20,8 @@ pub use table::Fresh;
 pub use table::Listed;
 pub use table::Received;
 pub use table::Table;
+pub use table::count_free;
+pub use table::count_held;
 pub use table::hand_over;
 pub use table::is_gateway;
 pub use table::receive_part;

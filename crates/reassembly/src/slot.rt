@@ -7,12 +7,14 @@ ghost use Rattle.reassembly.specs.Slots.{nodeOf, sameNode, present, same
 use ieee802154::Address;
 
 // An address as two numbers: its kind (0 absent, 1 short, 2 extended) and its value, 0 where it is absent.
+#[repr(C)]
 pub struct Node {
     pub kind: u64,
     pub number: u64,
 }
 
 // What tells one datagram's parts from another's.
+#[repr(C)]
 pub struct Key {
     pub src: Node,
     pub dst: Node,
@@ -22,6 +24,7 @@ pub struct Key {
 
 // A slot's record: open (live is 1) under a key since a time, a mark of coverage and of a part's start for each of its 256
 // units of 8 bytes, and whether the checksum was elided.
+#[repr(C)]
 pub struct Slot {
     pub key: Key,
     pub since: u64,

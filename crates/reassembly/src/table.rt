@@ -28,6 +28,7 @@ use octets::refusal::Refusal;
 use sixlowpan::frag::Units;
 
 // The slots, the last time taken, and the gateways: a seat without one holds an absent address.
+#[repr(C)]
 pub struct Table {
     pub slots: [Slot; 8],
     pub last: u64,
@@ -219,7 +220,8 @@ fn lowest_free(t: Table) -> usize
     8
 }
 
-fn count_free(t: Table) -> usize
+// How many slots are free.
+pub fn count_free(t: Table) -> usize
     ensures { λ r. ⌜ r ≡ free (t .slots) ⌝ }
 {
     let mut found: usize = 0;
@@ -233,7 +235,8 @@ fn count_free(t: Table) -> usize
     found
 }
 
-fn count_held(t: Table, g: Node) -> usize
+// How many slots a gateway holds.
+pub fn count_held(t: Table, g: Node) -> usize
     ensures { λ r. ⌜ r ≡ held g (t .slots) ⌝ }
 {
     let mut n: usize = 0;

@@ -1,0 +1,115 @@
+-- The gateway list as numbers, and what `Table::new` makes of it.
+use Prim.Native.Nat.{ℕ, zero, suc, _+_, _*_, _/_, _%_, _≤_, _<_}
+use native.Mathlib.Omega.{arith}
+use mathlib.Core.Path.{_≡_, refl, sym, ap, _∙_}
+use mathlib.Core.Bool.{Bool, true, false, _||_}
+use mathlib.Core.List.{List, [], _∷_, map}
+use lib.ListN.{length, getD, take}
+use lib.Dec.{ltb}
+use borrow.Author.Tests.{lt-ltb, ltb-false}
+use Rattle.octets.specs.Read.{Answer, is, refused, choose}
+use Rattle.octets.specs.Refusal.{numberOf}
+use Rattle.octets.specs.declared.refusal.Refusal.{Refusal}
+use Rattle.ieee802154.specs.declared.addr.Address.{Address}
+use Rattle.ieee802154.specs.declared.addr.Address.the-variants.{Absent}
+use Rattle.reassembly.specs.Slots.{nodeOf}
+use Rattle.reassembly.specs.Fresh.{ofListed, nodes, refusedList, listed, made, fresh, Begins}
+use Rattle.reassembly.specs.declared.slot.Node.{Node}
+use Rattle.reassembly.specs.declared.table.Table.{Table}
+use Rattle.reassembly.specs.declared.table.Listed.{Listed}
+use Rattle.reassembly.proofs.Tests.{by-test, by-order, no-both}
+use Rattle.lift.specs.Face.{addressOf, addresses, addressAt, gateways, refusesList, begun, tableBegun}
+
+-- ---- two numbers each
+pub at-in : (l : List ℕ) (i : ℕ) → i * 2 + 1 < length l → addressAt l i ≡ addressOf (getD l (i * 2) 0) (getD l (i * 2 + 1) 0)
+unfolding addressAt addresses
+at-in [] i h = absurd (omega (arith, h))
+at-in (k ∷ []) i h = absurd (omega (arith, h))
+at-in (k ∷ n ∷ l) zero h = refl
+at-in (k ∷ n ∷ l) (suc i) h =
+    let e : suc i * 2 ≡ suc (suc (i * 2)) = omega arith in
+    let f : suc (suc (i * 2)) + 1 ≡ suc (suc (i * 2 + 1)) = omega arith in
+    rw (e, f) (at-in l i (omega (arith, h)))
+
+pub at-out : (l : List ℕ) (i : ℕ) → length l ≤ i * 2 + 1 → addressAt l i ≡ Absent
+unfolding addressAt addresses
+at-out [] i h = refl
+at-out (k ∷ []) zero h = refl
+at-out (k ∷ []) (suc i) h = refl
+at-out (k ∷ n ∷ l) zero h = absurd (omega (arith, h))
+at-out (k ∷ n ∷ l) (suc i) h = at-out l i (omega (arith, h))
+
+pub how-many : (l : List ℕ) → length l / 2 + length l % 2 ≡ length (addresses l)
+unfolding addresses
+how-many [] = refl
+how-many (k ∷ []) = refl
+how-many (k ∷ n ∷ l) = let e = how-many l in omega (arith, e)
+
+or-left : (a b : Bool) → (a || b) ≡ false → a ≡ false
+or-left true b h = h
+or-left false b h = refl
+
+abbrev no : ℕ → Answer (Unit {0})
+no n = refused n
+
+abbrev verdict : Bool → Answer (Unit {0})
+verdict b = choose b (refused 14) (is tt)
+
+-- ---- four at most
+four : (l : List Address) (d : Address) → length l ≤ 4 → take (length l) (getD l 0 d ∷ getD l 1 d ∷ getD l 2 d ∷ getD l 3 d ∷ []) ≡ l
+four [] d h = refl
+four (a ∷ []) d h = refl
+four (a ∷ b ∷ []) d h = refl
+four (a ∷ b ∷ c ∷ []) d h = refl
+four (a ∷ b ∷ c ∷ e ∷ []) d h = refl
+four (a ∷ b ∷ c ∷ e ∷ f ∷ l) d h = absurd (omega (arith, h))
+
+pub four-is : (l : List ℕ) (a b c d : Address) → a ≡ addressAt l 0 → b ≡ addressAt l 1 → c ≡ addressAt l 2 → d ≡ addressAt l 3 → (a ∷ b ∷ c ∷ d ∷ []) ≡ (addressAt l 0 ∷ addressAt l 1 ∷ addressAt l 2 ∷ addressAt l 3 ∷ [])
+four-is l a b c d p q r s = rw (p, q, r, s) refl
+
+module _ (l : List ℕ) (four-of : List Address) (n : ℕ) (are : four-of ≡ addressAt l 0 ∷ addressAt l 1 ∷ addressAt l 2 ∷ addressAt l 3 ∷ []) (many : n ≡ length (addresses l)) where
+  same-nodes : n ≤ 4 → nodes n four-of ≡ gateways l
+  unfolding nodes gateways addressAt
+  same-nodes h = rw (are, many) (ap (map nodeOf) (four (addresses l) Absent (omega (arith, h, many))))
+
+  long : 4 < n → (gs : List Node) → refusedList n gs ≡ true
+  unfolding refusedList
+  long h gs = rw (lt-ltb 4 n h)
+
+  same-refusal : refusedList n (nodes n four-of) ≡ refusesList l
+  unfolding refusesList
+  same-refusal =
+      by-order n 4 (λ h. rw (same-nodes h) (ap (λ z. refusedList z (gateways l)) many))
+      (λ h. long h (nodes n four-of) ∙ sym (rw (sym many) (long h (gateways l))))
+
+  module _ (t x : Table) (y : Listed) (b : Begins y x n four-of) where
+    not-refused : y ≡ Listed.Accepted → refusedList n (nodes n four-of) ≡ false
+    unfolding listed
+    not-refused e = by-test (refusedList n (nodes n four-of)) (λ h. cc (ap ofListed e, b .answer, ap verdict h)) (λ h. h)
+
+    is-refused : (r : Refusal) → y ≡ Listed.Refused r → (refusedList n (nodes n four-of) ≡ true) × (numberOf r ≡ 14)
+    unfolding listed
+    is-refused r e =
+        by-test (refusedList n (nodes n four-of)) (λ h. (h, number-is (sym (ap ofListed e) ∙ b .answer ∙ ap verdict h)))
+        (λ h. no-both true refl (accepted (sym (ap ofListed e) ∙ b .answer ∙ ap verdict h)))
+      where
+        number-is : {m k : ℕ} → no m ≡ no k → m ≡ k
+        number-is q = cc q
+
+        accepted : {m : ℕ} → no m ≡ is tt → true ≡ false
+        accepted q = cc q
+
+    pub begun-list : y ≡ Listed.Accepted → (0 ≡ begun l) × (x ≡ tableBegun t l)
+    unfolding begun tableBegun made refusedList
+    begun-list e =
+        let h = not-refused e in
+        let k : refusesList l ≡ false = sym same-refusal ∙ h in
+        let few : n ≤ 4 = ltb-false 4 n (or-left (ltb 4 n) _ h) in
+        (rw k refl, rw k (b .table ∙ rw h (ap fresh (same-nodes few))))
+
+    pub refused-list : (r : Refusal) → y ≡ Listed.Refused r → (numberOf r ≡ begun l) × (t ≡ tableBegun t l)
+    unfolding begun tableBegun
+    refused-list r e =
+        let h = is-refused r e in
+        let k : refusesList l ≡ true = sym same-refusal ∙ h .0 in
+        (rw k (h .1), rw k refl)
