@@ -1,0 +1,117 @@
+/* lift.h: the receiver's side of 6LoWPAN for C and C++. IEEE 802.15.4 frames in, whole IPv6 datagrams out.
+ *
+ * Link with liblift.a, which `rt staticlib lift` writes to target/staticlib/ after it has proved every function in it. The
+ * library calls memcpy and nothing else: it does not allocate, block, print, keep state of its own, or use threads.
+ *
+ * What is proved, and what is not. Given that a call keeps the rules below, its answer, the table, and every byte that it was
+ * lent are, on every frame, exactly what crates/lift/specs/Face.antt defines; it ends, and reads and writes nothing that was
+ * not lent. The compiler cannot check the rules themselves across this boundary, so they are yours to keep:
+ *
+ *   1. A pointer is not null and stands before as many bytes (or numbers) as the length beside it says, readable, and
+ *      writable where it is not const. With a length of 0 the pointer is not looked behind, but is still not null.
+ *      No length is over PTRDIFF_MAX bytes.
+ *   2. What a call may write overlaps nothing else that the call takes: table, mem and out are apart from each other and
+ *      from frame and contexts. (frame and contexts may overlap each other.)
+ *   3. The table's bytes are all zero before its first lift_begin, and from then on only these calls write them. It may be
+ *      copied or moved as a whole, with its mem, between calls. Nothing in it is a pointer.
+ *   4. mem belongs to the table: between calls nobody writes to its first 16,384 bytes. It need not be cleared at first.
+ *   5. No two calls use one table, its mem or an out at the same time. Different tables are independent.
+ *
+ * Nothing that is lent is kept: no call remembers a pointer, so frame, contexts and out may go away, or move, when it returns.
+ * mem and the table must live as long as parts are to be remembered.
+ */
+#ifndef LIFT_H
+#define LIFT_H
+
+#include <stddef.h>
+#include <stdint.h>
+
+#ifdef __cplusplus
+extern "C" {
+#endif
+
+/* The least bytes of mem and of out; with less a call answers LIFT_REFUSED with 7. */
+#define LIFT_MEM_BYTES 16384u
+#define LIFT_OUT_BYTES 2047u
+
+/* A table: eight slots, the last time taken, and at most four gateways. 1,096 bytes, aligned to 8. What the words hold is
+ * not part of this interface. examples/c/layout.c checks the size and the alignment at run time against the library itself. */
+typedef struct lift_table {
+  uint64_t words[137];
+} lift_table;
+
+/* An address in a list of gateways, and for lift_held, is two numbers: its kind, then its value, the byte that the standard
+ * writes first being the highest. 0x0001 is the short address 0001, 0x0011223344556677 the extended 00:11:22:33:44:55:66:77. */
+#define LIFT_SHORT 1u    /* a short address, below 65,536 */
+#define LIFT_EXTENDED 2u /* an extended address */
+
+/* Makes *t a table of these gateways, with eight free slots and the last time 0.
+ *
+ *   gateways  two numbers for each gateway, kind and value, one gateway after the other
+ *   numbers   how many numbers that is: twice the number of gateways, 0 to 8
+ *
+ * Answers 0; or 14, and leaves *t as it was, where the list has more than four gateways, two equal ones, or something that
+ * is no address: another kind, a short address of 65,536 or more, or a kind without a value.
+ * A table that has begun may begin again; the parts that it held are then forgotten. */
+uint32_t lift_begin(lift_table *t, const uint64_t *gateways, size_t numbers);
+
+/* Hands the table a frame that was heard.
+ *
+ *   time          in milliseconds, from any beginning, and never falling: an earlier time than the last one is refused (8)
+ *   frame         the MAC frame without its frame check, at most 127 bytes
+ *   contexts      the address contexts of RFC 6282, 8 bytes each, by identifier from 0 on; a shorter rest is ignored.
+ *                 With none, any non-null pointer and 0
+ *   mem           the memory for parts, LIFT_MEM_BYTES or more: the same bytes in every call for this table
+ *   out           where a datagram goes, LIFT_OUT_BYTES or more
+ *
+ * The answer is a kind in the high 16 bits and a number in the low 16; lift_kind and lift_number take it apart:
+ *
+ *   LIFT_KEPT     0    the frame is a part of a datagram that is not whole yet, or the repeat of one. out is as it was.
+ *   LIFT_OUT      L    a datagram of L bytes (40 to 2,047) stands at the start of out; the rest of out is as it was.
+ *   LIFT_REFUSED  R    the frame is refused for reason R, below. mem and out are as they were, to the last byte.
+ *
+ * A refusal other than 7 and 8 takes the time too, and frees slots that are 60,000 ms old or older; 11 frees its slot. */
+uint32_t lift_receive(lift_table *t, uint64_t time, const uint8_t *frame, size_t frame_len, const uint8_t *contexts,
+                      size_t contexts_len, uint8_t *mem, size_t mem_len, uint8_t *out, size_t out_len);
+
+#define LIFT_KEPT 0u
+#define LIFT_OUT 1u
+#define LIFT_REFUSED 2u
+
+static inline uint32_t lift_kind(uint32_t answer) { return answer >> 16; }
+static inline uint32_t lift_number(uint32_t answer) { return answer & 0xffffu; }
+
+/* The reasons of a refusal.
+ *
+ *    1  the bytes end before a needed field
+ *    2  the leading bits are not this header's: not 6LoWPAN, or a dispatch that is not taken here
+ *    3  a reserved or unsupported mode or version
+ *    4  a length that is not allowed: a frame of over 127 bytes
+ *    5  an address context that is not in the list
+ *    6  a needed link-layer address is absent
+ *    7  mem or out is too small
+ *    8  the time is earlier than the last one taken
+ *    9  the source is not a gateway of the table
+ *   10  a part that no datagram can have
+ *   11  a part that clashes with bytes already taken; its slot is freed
+ *   12  no slot may be opened for this gateway now
+ *   13  secured, not a Data frame, or with an extension header that would have to be expanded
+ *   14  a bad list of gateways (lift_begin only) */
+
+/* How many of the eight slots are free. Slots that have grown old count as held until a call of lift_receive frees them. */
+size_t lift_free(const lift_table *t);
+
+/* How many slots the gateway of this kind and value holds, 0 to 3; 0 for anything that is no gateway. */
+size_t lift_held(const lift_table *t, uint64_t kind, uint64_t value);
+
+#ifdef __cplusplus
+}
+#endif
+
+#if defined(__STDC_VERSION__) && __STDC_VERSION__ >= 201112L
+_Static_assert(sizeof(lift_table) == 1096, "a table has 1,096 bytes");
+_Static_assert(_Alignof(lift_table) == 8, "a table is aligned to 8");
+_Static_assert(sizeof(size_t) == 8, "the library is for 64-bit machines");
+#endif
+
+#endif
