@@ -1,11 +1,11 @@
 // The parts of an answer. Each puts its text at a place of the output and answers the place after it.
-use super::fields;
 use octets::refusal::Refusal;
 use reassembly::Key;
 use reassembly::Node;
 use reassembly::Outcome;
 use reassembly::Slot;
 use reassembly::Table;
+use text::field;
 use text::print;
 
 pub fn refused(out: &mut [u8], to: usize, e: Refusal) -> usize {
@@ -21,7 +21,7 @@ pub fn outcome(out: &mut [u8], to: usize, o: Outcome, datagram: &[u8]) -> usize 
             let n = print::text(out, to, b"out ");
             let m = print::decimal(out, n, len as u64);
             let k = print::put(out, m, b' ');
-            print::bytes(out, k, fields::upto(datagram, len))
+            print::bytes(out, k, field::upto(datagram, len))
         }
         Outcome::Refused(e) => refused(out, to, e),
     }

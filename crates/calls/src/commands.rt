@@ -3,10 +3,10 @@ use super::answer;
 use super::fields;
 use check::same;
 use ieee802154::Address;
-use octets::refusal::Refusal;
 use reassembly::Listed;
 use reassembly::Table;
 use receiver::receive;
+use text::field;
 use text::line::find;
 use text::print;
 
@@ -30,6 +30,18 @@ struct Request {
     mem: u64,
     out: u64,
     next: usize,
+}
+
+impl Request {
+    // What a line says that is no call.
+    const NOTHING: Request = Request {
+        time: 0,
+        frame: 0,
+        contexts: 0,
+        mem: 0,
+        out: 0,
+        next: field::NONE,
+    };
 }
 
 impl Session {
@@ -66,7 +78,7 @@ fn gateways(line: &[u8], from: usize, session: Session, out: &mut [u8], to: usiz
     if session.made {
         return bad(session, out, to);
     }
-    if !fields::ended(line, next) {
+    if !field::ended(line, next) {
         return bad(session, out, to);
     }
     let f = Table::new(all, count);
@@ -88,14 +100,18 @@ fn gateways(line: &[u8], from: usize, session: Session, out: &mut [u8], to: usiz
 
 // The fields of `call TIME FRAME CONTEXTS MEMLEN OUTLEN`.
 fn read_request(line: &[u8], from: usize, scratch: &mut [u8]) -> Request {
-    let time = fields::decimal(line, from);
-    let frame = fields::bytes(line, time.next, scratch, 0);
-    let contexts = fields::bytes(line, frame.next, scratch, frame.count);
-    let mem = fields::decimal(line, contexts.next);
-    let out = fields::decimal(line, mem.next);
+    let time = field::decimal(line, from);
+    let frame = field::bytes(line, time.next, scratch);
+    let len = frame.count;
+    if scratch.len() < len {
+        return Request::NOTHING;
+    }
+    let contexts = field::bytes(line, frame.next, &mut scratch[len..]);
+    let mem = field::decimal(line, contexts.next);
+    let out = field::decimal(line, mem.next);
     Request {
         time: time.value,
-        frame: frame.count,
+        frame: len,
         contexts: contexts.count,
         mem: mem.value,
         out: out.value,
@@ -113,8 +129,8 @@ fn receive_frame(
     out: &mut [u8],
     to: usize,
 ) -> Done {
-    let frame = fields::part(scratch, 0, r.frame);
-    let contexts = fields::part(scratch, r.frame, r.contexts);
+    let frame = field::part(scratch, 0, r.frame);
+    let contexts = field::part(scratch, r.frame, r.contexts);
     let got = receive(table, r.time, frame, contexts, lent, datagram);
     let answer = got.answer;
     let after = got.table;
@@ -143,7 +159,7 @@ fn call(
     if !session.made {
         return bad(session, out, to);
     }
-    if !fields::ended(line, r.next) {
+    if !field::ended(line, r.next) {
         return bad(session, out, to);
     }
     let mem = r.mem as usize;
@@ -200,7 +216,7 @@ pub fn answer_line(
     out: &mut [u8],
     to: usize,
 ) -> Done {
-    if fields::at(line, 0) == b'#' {
+    if field::at(line, 0) == b'#' {
         let n = print::text(out, to, line);
         return Done {
             session,

@@ -2,12 +2,13 @@
 // protocol). A line that starts with `#` is answered by itself, one that is no call by `bad`, one that does not fit the input by
 // `bad long`.
 //
-// - `commands`: what the lines `gateways` and `call` do. `fields`: the fields of a line. `answer`: the parts of an answer.
+// - `commands`: what the lines `gateways` and `call` do. `fields`: addresses in a line. `answer`: the parts of an answer.
 mod answer;
 mod commands;
 mod fields;
 
 use commands::Session;
+use text::field;
 use text::line;
 use text::print;
 
@@ -71,10 +72,10 @@ fn is_near_full(out: &[u8], to: usize, len: usize) -> bool {
 // Writes the output out where it is near full; answers the place in it, and NONE where the write failed.
 fn make_room(out: &[u8], to: usize, len: usize) -> usize {
     if is_near_full(out, to, len) {
-        if io::write_all(1, fields::upto(out, to)) {
+        if io::write_all(1, field::upto(out, to)) {
             return 0;
         }
-        return fields::NONE;
+        return field::NONE;
     }
     to
 }
@@ -128,7 +129,7 @@ fn end_line(
         unread,
         session: after,
         to: d.to,
-        more: to != fields::NONE,
+        more: to != field::NONE,
     }
 }
 
@@ -158,10 +159,13 @@ fn read_on(input: &mut [u8], n: usize, skip: bool, session: Session) -> Progress
     let got = libc::read(0, &mut input[n..]);
     if 0 < got {
         let more = io::count(got, input);
+        if input.len() - n < more {
+            return stopped(session);
+        }
         let unread = Unread {
             start: 0,
             from: n,
-            have: fields::sum(n, more, input.len()),
+            have: n + more,
             skip,
         };
         return drained(unread, session);
@@ -185,7 +189,7 @@ fn refill(input: &mut [u8], r: Progress, out: &[u8]) -> Progress {
     let u = r.unread;
     let start = u.start;
     let have = u.have;
-    if !io::write_all(1, fields::upto(out, r.to)) {
+    if !io::write_all(1, field::upto(out, r.to)) {
         return stopped(session);
     }
     if have < start {
@@ -213,7 +217,7 @@ fn step(
 ) -> Progress {
     let u = r.unread;
     let have = u.have;
-    let end = line::find(fields::upto(input, have), u.from, b'\n');
+    let end = line::find(field::upto(input, have), u.from, b'\n');
     if end < have {
         return end_line(input, end, r, scratch, lent, datagram, out);
     }

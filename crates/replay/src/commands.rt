@@ -1,13 +1,13 @@
 // The commands, by name.
 use super::answer;
 use super::compressed;
-use super::fields;
 use super::fragment;
 use super::mac;
 use super::nhc;
 use super::room;
 use super::room::Emitted;
 use check::same;
+use text::field;
 
 // `Unknown` is answered `bad`, as a command whose fields are not of their kinds is.
 enum Command {
@@ -42,7 +42,7 @@ fn either(name: &[u8], first: &[u8], a: Command, second: &[u8], b: Command) -> C
 
 // The command of a name. Its first byte leaves two at most.
 fn named(name: &[u8]) -> Command {
-    match fields::at(name, 0) {
+    match field::at(name, 0) {
         b'm' => either(
             name,
             b"mac.parse",
@@ -70,7 +70,7 @@ fn named(name: &[u8]) -> Command {
 
 // More of them: in a function of their own, since the checker's work on one grows faster than its arms.
 fn named_on(name: &[u8]) -> Command {
-    match fields::at(name, 0) {
+    match field::at(name, 0) {
         b'u' => either(
             name,
             b"udp.parse",
@@ -132,11 +132,11 @@ fn read_line(
     out: &mut [u8],
     to: usize,
 ) -> usize {
-    let b = fields::last_bytes(line, from, a);
-    if !fields::ended(line, b.next) {
+    let b = field::last_bytes(line, from, a);
+    if !field::ended(line, b.next) {
         return answer::bad(out, to);
     }
-    read(c, fields::upto(a, b.count), out, to)
+    read(c, field::upto(a, b.count), out, to)
 }
 
 // The commands that write a header into a room.
@@ -160,10 +160,10 @@ fn emit_line(
     to: usize,
 ) -> usize {
     let e = emit(c, line, from, a);
-    if e.room == fields::NONE {
+    if e.room == field::NONE {
         return answer::bad(out, to);
     }
-    room::put_emitted(out, to, e, fields::upto(a, e.room))
+    room::put_emitted(out, to, e, field::upto(a, e.room))
 }
 
 fn is_emit(c: Command) -> bool {

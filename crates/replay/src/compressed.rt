@@ -6,6 +6,7 @@ use super::room::Emitted;
 use ieee802154::AddressField;
 use iphc::Parsed;
 use iphc::Repr;
+use text::field;
 
 struct ReprText {
     value: Repr,
@@ -65,14 +66,14 @@ struct Query {
 }
 
 fn ask(line: &[u8], from: usize, a: &mut [u8]) -> Query {
-    let bytes = fields::bytes(line, from, a);
+    let bytes = field::bytes(line, from, a);
     let ll_src = fields::link(line, bytes.next);
     let ll_dst = fields::link(line, ll_src.next);
     let src = ll_src.value;
     let dst = ll_dst.value;
     // The contexts go behind the header's bytes, so that one room serves both.
     let n = fields::least(bytes.count, a.len());
-    let contexts = fields::last_bytes(line, ll_dst.next, &mut a[n..]);
+    let contexts = field::last_bytes(line, ll_dst.next, &mut a[n..]);
     Query {
         bytes: n,
         src,
@@ -84,13 +85,13 @@ fn ask(line: &[u8], from: usize, a: &mut [u8]) -> Query {
 
 pub fn parse(line: &[u8], from: usize, a: &mut [u8], out: &mut [u8], to: usize) -> usize {
     let q = ask(line, from, a);
-    if !fields::ended(line, q.next) {
+    if !field::ended(line, q.next) {
         return answer::bad(out, to);
     }
     let src = q.src;
     let dst = q.dst;
-    let contexts = fields::part(a, q.bytes, q.contexts);
-    parsed(fields::upto(a, q.bytes), src, dst, contexts, out, to)
+    let contexts = field::part(a, q.bytes, q.contexts);
+    parsed(field::upto(a, q.bytes), src, dst, contexts, out, to)
 }
 
 fn repr(line: &[u8], from: usize) -> ReprText {

@@ -1,8 +1,4 @@
-// The fields of a line, read one after another.
-//
-// A place in a line is where its next field starts, and one past its length behind the last field. Each reader takes a place and answers
-// the field's value with the next place. Where the field is not of its kind, the next place is NONE: no field starts there, so
-// every later reader answers NONE too, and only the last place of a line has to be tested.
+// The fields of a line that are of this program's own kinds, beside those of `text::field`, whose places they read on from.
 ghost use Prim.Native.Nat.{_≤_};
 use check::same;
 use ieee802154::Address;
@@ -14,15 +10,13 @@ use octets::field::WordField;
 use octets::ipv6::Ipv6Addr;
 use sixlowpan::IpProtocol;
 use sixlowpan::NextHeader;
-use std::num::wrapping_sub_u8;
+use text::field;
+use text::field::NONE;
+use text::field::NumberText;
+use text::field::at;
+use text::field::behind;
+use text::field::number;
 use text::line::find;
-
-pub const NONE: usize = usize::MAX;
-
-pub struct NumberText {
-    pub value: u64,
-    pub next: usize,
-}
 
 pub struct FlagText {
     pub value: bool,
@@ -59,62 +53,11 @@ pub struct NextText {
     pub next: usize,
 }
 
-// How many bytes a field in hexadecimal holds.
-pub struct BytesText {
-    pub count: usize,
-    pub next: usize,
-}
-
-// The byte at a place, or 0 past the end.
-pub fn at(s: &[u8], i: usize) -> u8 {
-    if i < s.len() { s[i] } else { 0 }
-}
-
-// The bytes before a place; all where it lies past the end.
-pub fn upto(s: &[u8], n: usize) -> &[u8] {
-    if n <= s.len() {
-        return &s[0..n];
-    }
-    s
-}
-
-// So many bytes from a place on; none where there are fewer.
-pub fn part(s: &[u8], from: usize, n: usize) -> &[u8] {
-    if from <= s.len() {
-        if n <= s.len() - from {
-            return &s[from..from + n];
-        }
-    }
-    &s[0..0]
-}
-
 // The smaller of two numbers.
 pub fn least(a: usize, b: usize) -> usize
     ensures { λ r. ⌜ r ≤ b ⌝ }
 {
     if a < b { a } else { b }
-}
-
-// Whether a line's fields were all read, and each was of its kind.
-pub fn ended(line: &[u8], next: usize) -> bool {
-    if next == 0 {
-        return false;
-    }
-    next - 1 == line.len()
-}
-
-// The place behind a field that is to end at `end`.
-fn behind(line: &[u8], end: usize) -> usize {
-    if end < line.len() {
-        if line[end] == b' ' {
-            return end + 1;
-        }
-        return NONE;
-    }
-    if end == line.len() {
-        return end + 1;
-    }
-    NONE
 }
 
 // The place behind a field of one byte.
@@ -123,64 +66,6 @@ fn behind_one(line: &[u8], from: usize) -> usize {
         return behind(line, from + 1);
     }
     NONE
-}
-
-// The value of a hexadecimal digit, or 16. Two differences that wrap and two tests compile to code without jumps, which drawn digits
-// would mispredict.
-fn nibble(b: u8) -> u8 {
-    let decimal = wrapping_sub_u8(b, b'0');
-    let letter = wrapping_sub_u8(b, b'a');
-    if letter < 6 {
-        letter + 10
-    } else if decimal < 10 {
-        decimal
-    } else {
-        16
-    }
-}
-
-// The number of hexadecimal digits, its low 64 bits, and the place `end` behind them; NONE where one is no digit.
-fn value(s: &[u8], end: usize) -> NumberText {
-    let mut value: u64 = 0;
-    let mut worst: u8 = 0;
-    let mut i: usize = 0;
-    while i < s.len() {
-        let d = nibble(s[i]);
-        worst = worst | d;
-        value = value % 0x1000_0000_0000_0000 * 16 + (d % 16) as u64;
-        i += 1;
-    }
-    NumberText {
-        value,
-        next: if worst < 16 { end } else { NONE },
-    }
-}
-
-// So many hexadecimal digits, and the place just behind them.
-fn digits(line: &[u8], from: usize, n: usize) -> NumberText {
-    if line.len() < n {
-        return NumberText {
-            value: 0,
-            next: NONE,
-        };
-    }
-    if line.len() - n < from {
-        return NumberText {
-            value: 0,
-            next: NONE,
-        };
-    }
-    let end = from + n;
-    value(&line[from..end], end)
-}
-
-// A field of so many hexadecimal digits.
-fn number(line: &[u8], from: usize, n: usize) -> NumberText {
-    let d = digits(line, from, n);
-    NumberText {
-        value: d.value,
-        next: behind(line, d.next),
-    }
 }
 
 pub fn byte(line: &[u8], from: usize) -> NumberText {
@@ -300,7 +185,7 @@ pub fn link(line: &[u8], from: usize) -> LinkText {
 }
 
 pub fn ipv6(line: &[u8], from: usize) -> Ipv6Text {
-    let prefix = digits(line, from, 16);
+    let prefix = field::digits(line, from, 16);
     let iid = number(line, prefix.next, 16);
     Ipv6Text {
         value: Ipv6Addr {
@@ -366,69 +251,4 @@ pub fn identifier(line: &[u8], from: usize) -> NumberText {
         };
     }
     d
-}
-
-// Fills the room with the bytes of pairs of digits; answers whether each is a digit.
-fn pairs(s: &[u8], room: &mut [u8]) -> bool {
-    if s.len() / 2 < room.len() {
-        return false;
-    }
-    let mut worst: u8 = 0;
-    let mut i: usize = 0;
-    while i < room.len() {
-        let hi = nibble(s[i * 2]);
-        let lo = nibble(s[i * 2 + 1]);
-        worst = worst | hi | lo;
-        room[i] = hi % 16 * 16 + lo % 16;
-        i += 1;
-    }
-    worst < 16
-}
-
-// How many bytes a field from one place to another holds: '-' none, pairs of digits one each; NONE where it is neither.
-fn count(line: &[u8], from: usize, end: usize) -> usize {
-    if end <= from {
-        return NONE;
-    }
-    let n = end - from;
-    if n % 2 == 0 {
-        return n / 2;
-    }
-    if n == 1 {
-        if at(line, from) == b'-' {
-            return 0;
-        }
-    }
-    NONE
-}
-
-// A field from one place to another, of bytes in hexadecimal, '-' for none, put into the room. A space is no digit, so what ends
-// at the line's end and is all digits is one field.
-fn bytes_to(line: &[u8], from: usize, end: usize, room: &mut [u8]) -> BytesText {
-    let n = count(line, from, end);
-    if room.len() < n {
-        return BytesText {
-            count: 0,
-            next: NONE,
-        };
-    }
-    if pairs(part(line, from, n * 2), &mut room[0..n]) {
-        return BytesText {
-            count: n,
-            next: behind(line, end),
-        };
-    }
-    BytesText {
-        count: 0,
-        next: NONE,
-    }
-}
-
-pub fn bytes(line: &[u8], from: usize, room: &mut [u8]) -> BytesText {
-    bytes_to(line, from, find(line, from, b' '), room)
-}
-
-// The bytes of a line's last field: its end need not be looked for.
-pub fn last_bytes(line: &[u8], from: usize, room: &mut [u8]) -> BytesText {
-    bytes_to(line, from, line.len(), room)
 }

@@ -16,6 +16,7 @@ use sixlowpan::frag::KeyAnswer;
 use sixlowpan::frag::Parsed;
 use sixlowpan::frag::Repr;
 use sixlowpan::frag::Units;
+use text::field;
 use text::print;
 
 struct ReprText {
@@ -129,7 +130,7 @@ pub fn key(line: &[u8], from: usize, out: &mut [u8], to: usize) -> usize {
     let src = fields::link(line, from);
     let dst = fields::link(line, src.next);
     let t = repr(line, dst.next);
-    if !fields::ended(line, t.next) {
+    if !field::ended(line, t.next) {
         return answer::bad(out, to);
     }
     let ll_src = src.value;

@@ -14,6 +14,7 @@ use ieee802154::PanField;
 use ieee802154::Parsed;
 use ieee802154::Repr;
 use octets::write::Written;
+use text::field;
 use text::print;
 
 struct ReprText {
@@ -139,7 +140,7 @@ fn put_bytes(out: &mut [u8], to: usize, x: Address, room: &mut [u8]) -> usize {
     match x.emit_bytes(&mut room[0..len]) {
         Written::Bytes(n) => {
             let k = print::put(out, to, b' ');
-            answer::hex_bytes(out, k, fields::upto(room, n))
+            answer::hex_bytes(out, k, field::upto(room, n))
         }
         Written::Refused(e) => answer::refused(out, to, e),
     }
@@ -171,7 +172,7 @@ fn put_info(out: &mut [u8], to: usize, x: Address) -> usize {
 
 pub fn info(line: &[u8], from: usize, out: &mut [u8], to: usize) -> usize {
     let x = fields::link(line, from);
-    if !fields::ended(line, x.next) {
+    if !field::ended(line, x.next) {
         return answer::bad(out, to);
     }
     let field = x.value;

@@ -13,6 +13,7 @@ mod mac;
 mod nhc;
 mod room;
 
+use text::field;
 use text::line;
 use text::print;
 
@@ -35,7 +36,7 @@ struct Done {
 
 // Puts the answer to a line, and its end.
 fn answered(text: &[u8], a: &mut [u8], out: &mut [u8], to: usize) -> usize {
-    if fields::at(text, 0) == b'#' {
+    if field::at(text, 0) == b'#' {
         let n = print::text(out, to, text);
         return print::put(out, n, b'\n');
     }
@@ -64,7 +65,7 @@ fn is_near_full(out: &[u8], to: usize, len: usize) -> bool {
 fn drained(d: Done, out: &[u8], len: usize) -> Done {
     let to = d.to;
     if is_near_full(out, to, len) {
-        let sent = io::write_all(1, fields::upto(out, to));
+        let sent = io::write_all(1, field::upto(out, to));
         return Done {
             start: d.start,
             skip: d.skip,
@@ -127,8 +128,8 @@ fn last(input: &[u8], have: usize, skip: bool, a: &mut [u8], out: &mut [u8]) -> 
     if have == 0 {
         return stopped();
     }
-    let n = answered(fields::upto(input, have), a, out, 0);
-    io::write_all(1, fields::upto(out, n));
+    let n = answered(field::upto(input, have), a, out, 0);
+    io::write_all(1, field::upto(out, n));
     stopped()
 }
 
@@ -151,7 +152,7 @@ fn too_long(d: Done, out: &mut [u8]) -> Kept {
         };
     }
     let n = print::text(out, d.to, b"bad long\n");
-    let sent = io::write_all(1, fields::upto(out, n));
+    let sent = io::write_all(1, field::upto(out, n));
     Kept {
         have: 0,
         skip: true,
@@ -179,7 +180,7 @@ fn rest(input: &mut [u8], all: usize, d: Done, out: &mut [u8]) -> Kept {
         return stopped();
     }
     line::shift(&mut input[0..all], start);
-    let sent = io::write_all(1, fields::upto(out, d.to));
+    let sent = io::write_all(1, field::upto(out, d.to));
     Kept {
         have: all - start,
         skip: d.skip,
@@ -203,7 +204,7 @@ fn turn(input: &mut [u8], a: &mut [u8], out: &mut [u8], k: Kept) -> Kept {
         return stopped();
     }
     let all = have + n;
-    let d = lines(fields::upto(input, all), have, skip, a, out);
+    let d = lines(field::upto(input, all), have, skip, a, out);
     rest(input, all, d, out)
 }
 

@@ -1,7 +1,7 @@
 // Rooms that writers write into.
 use super::answer;
-use super::fields;
 use octets::write::Written;
+use text::field;
 use text::print;
 
 // The largest room.
@@ -20,7 +20,7 @@ pub struct Emitted {
 impl Emitted {
     pub const NOTHING: Emitted = Emitted {
         len: 0,
-        room: fields::NONE,
+        room: field::NONE,
         written: Written::Bytes(0),
     };
 }
@@ -28,19 +28,19 @@ impl Emitted {
 // The value of one to three decimal digits, from a place to the line's end; NONE where they are none.
 fn decimal(line: &[u8], from: usize) -> usize {
     if line.len() <= from {
-        return fields::NONE;
+        return field::NONE;
     }
     if 3 < line.len() - from {
-        return fields::NONE;
+        return field::NONE;
     }
     let mut value: u32 = 0;
     let mut i = from;
     while i < line.len() {
         if line[i] < b'0' {
-            return fields::NONE;
+            return field::NONE;
         }
         if b'9' < line[i] {
-            return fields::NONE;
+            return field::NONE;
         }
         value = value % 1000 * 10 + (line[i] - b'0') as u32;
         i += 1;
@@ -53,7 +53,7 @@ fn longer(len: usize, more: usize) -> usize {
     if more < 1000 {
         return len % 4096 + more;
     }
-    fields::NONE
+    field::NONE
 }
 
 // So many bytes less, or NONE.
@@ -61,13 +61,13 @@ fn shorter(len: usize, less: usize) -> usize {
     if less <= len {
         return len - less;
     }
-    fields::NONE
+    field::NONE
 }
 
 // How large a room a line's last field asks for, by the writer's length; over MOST where the line is no command.
 fn size(line: &[u8], from: usize, len: usize) -> usize {
     if line.len() <= from {
-        return fields::NONE;
+        return field::NONE;
     }
     let next = from + 1;
     match line[from] {
@@ -75,7 +75,7 @@ fn size(line: &[u8], from: usize, len: usize) -> usize {
             if next == line.len() {
                 return len;
             }
-            fields::NONE
+            field::NONE
         }
         b'+' => longer(len, decimal(line, next)),
         b'-' => shorter(len, decimal(line, next)),
@@ -87,10 +87,10 @@ fn size(line: &[u8], from: usize, len: usize) -> usize {
 pub fn made(line: &[u8], from: usize, len: usize, a: &mut [u8]) -> usize {
     let n = size(line, from, len);
     if MOST < n {
-        return fields::NONE;
+        return field::NONE;
     }
     if a.len() < n {
-        return fields::NONE;
+        return field::NONE;
     }
     fill(&mut a[0..n]);
     n

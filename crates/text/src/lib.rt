@@ -5,5 +5,6 @@
 //   the place stays: nothing is ever cut in the middle.
 //
 // No function asks anything of its caller, and each contract fixes the answer and the lent bytes.
+pub mod field;
 pub mod line;
 pub mod print;
