@@ -90,7 +90,32 @@ def damaged():
     return lines
 
 
-EXAMPLES = {"patch": patch, "two-gateways": two_gateways, "damaged": damaged}
+def witness():
+    """The two runs of crates/promises/proofs/Witness.antt, with the bytes that stand in proofs/Worked.antt there."""
+
+    def frame(source, sequence, rest):
+        return bytes.fromhex(f"4188{sequence:02x}cdabffff{source:02x}00" + rest)
+
+    def first(source, checksum):
+        return frame(source, 0, "c04000077e33f312" + checksum + b"PATCH 20".hex())
+
+    def later(source, month):
+        return frame(source, 1, "e040000707" + f"26-1{month} 03".encode().hex())
+
+    elided = frame(1, 0, "c04000077e33f712" + b"PATCH 20".hex())
+    return [
+        "# The runs that show that the theorem demand-3 says something, as frames: the same tag and size, 64 bytes.",
+        line(1000, later(1, 0), "last month's, from 0001: its second part comes first"),
+        line(1005, first(2, "43c6"), "this month's, from 0002"),
+        line(1012, first(1, "44c7"), "last month's"),
+        line(1017, later(2, 1), "this month's"),
+        line(100000, elided, "this month's from 0001, the checksum elided"),
+        line(100010, elided, "the same part again"),
+        line(159999, later(1, 1), "59,999 ms after the first"),
+    ]
+
+
+EXAMPLES = {"patch": patch, "two-gateways": two_gateways, "damaged": damaged, "witness": witness}
 
 
 def printed(capture):
