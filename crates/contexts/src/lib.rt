@@ -1,17 +1,23 @@
 // Address contexts lent as a slice of `AddressContext`, indexed by identifier.
 //
-// `receive` is the public call with such a slice. Its contract is that of `receiver::receive` on the flat bytes that the slice
-// means (`listed` of specs/Slice.antt: 8 each, in order). Underneath, `with_context` picks one struct from the slice and calls
-// the covered function on flat values.
+// `receive` is the public call with such a slice, and `read_header` reads a compressed IPv6 header with one. Their contracts are
+// those of `receiver::receive` and `iphc::Repr::read` on the flat bytes that the slice means (`listed` of specs/Slice.antt: 8
+// each, in order). Underneath, `with_context` picks one struct from the slice and calls the covered function on flat values.
 ghost use mathlib.Core.Path.{_≡_};
 ghost use Prim.Native.Nat.{_≤_, min};
 ghost use lib.ListN.{replicate};
+ghost use Rattle.iphc.specs.Iphc.{iphc};
+ghost use Rattle.iphc.specs.Answers.{ofParsed};
 ghost use Rattle.reassembly.specs.Slots.{gatesOf};
 ghost use Rattle.reassembly.specs.Table.{step, Gives};
 ghost use Rattle.receiver.specs.Receive.{callOf};
 ghost use Rattle.contexts.specs.Slice.{listed, empty, appended, withAt, laidTo, bytesOf};
 use expand::copy::put_part;
+use ieee802154::addr::AddressField;
 use iphc::context::AddressContext;
+use iphc::header::Parsed;
+use iphc::header::Repr;
+use octets::cursor::Cursor;
 use reassembly::Received;
 use reassembly::Table;
 
@@ -122,4 +128,26 @@ pub fn receive(
 {
     let f = flatten(contexts);
     receive_flat(table, time, frame, f, mem, out)
+}
+
+fn read_flat(buf: &[u8], c: Cursor, ll_src: AddressField, ll_dst: AddressField, f: Flat) -> Parsed
+    ensures { λ r. ⌜ ofParsed r ≡ iphc (bytesOf f) «ll_src» «ll_dst» (now (buf .entry)) (c .at) ⌝ }
+{
+    let bytes = f.bytes;
+    let n = at_most_128(f.len);
+    Repr::read(buf, c, ll_src, ll_dst, &bytes[0..n])
+}
+
+// The compressed IPv6 header that stands at a place of the bytes, with the contexts as a slice.
+pub fn read_header(
+    buf: &[u8],
+    c: Cursor,
+    ll_src: AddressField,
+    ll_dst: AddressField,
+    contexts: &[AddressContext],
+) -> Parsed
+    ensures { λ r. ⌜ ofParsed r ≡ iphc (listed (now (contexts .entry))) «ll_src» «ll_dst» (now (buf .entry)) (c .at) ⌝ }
+{
+    let f = flatten(contexts);
+    read_flat(buf, c, ll_src, ll_dst, f)
 }

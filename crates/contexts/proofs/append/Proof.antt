@@ -4,9 +4,6 @@ use Rattle.contexts.proofs.Laws.{append-put, append-full, append-none}
 use borrow.Author.Needs.{needs}
 use Rattle.contexts.proofs.append.Statement.{statement}
 use Rattle.contexts.proofs.append.Tie as tie
-use Rattle.contexts.proofs.append.Reads as reads
-use Rattle.contexts.proofs.append.Lts as lts
-use Rattle.expand.proofs.copy.put_part.Reads as put-part-reads
 
 slice-aggregate-put-part : tie.Need-slice-aggregate-put-part
 slice-aggregate-put-part c = search needs

@@ -2,8 +2,6 @@ use mathlib.Core.Path.{refl}
 use Rattle.contexts.specs.Slice.{empty}
 use Rattle.contexts.proofs.no_contexts.Statement.{statement}
 use Rattle.contexts.proofs.no_contexts.Tie as tie
-use Rattle.contexts.proofs.no_contexts.Reads as reads
-use Rattle.contexts.proofs.no_contexts.Lts as lts
 
 returns : tie.Need-returns
 unfolding empty

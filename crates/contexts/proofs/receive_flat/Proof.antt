@@ -6,10 +6,6 @@ use Rattle.contexts.proofs.Laws.{bytes-of}
 use borrow.Author.Needs.{needs}
 use Rattle.contexts.proofs.receive_flat.Statement.{statement}
 use Rattle.contexts.proofs.receive_flat.Tie as tie
-use Rattle.contexts.proofs.receive_flat.Reads as reads
-use Rattle.contexts.proofs.receive_flat.Lts as lts
-use Rattle.contexts.proofs.at_most_128.Reads as at-most-128-reads
-use Rattle.receiver.proofs.receive.Reads as receive-reads
 
 at-most-128-requires : tie.Need-at-most-128-requires
 at-most-128-requires c κs = search needs
