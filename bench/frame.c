@@ -222,7 +222,7 @@ static void check_drawn(void) {
       snprintf(where, sizeof where, "run %zu", runs++);
       read_gateways(line + 8, &gateways);
       clear();
-      uint64_t wanted = kinds[LIBRARY]->begin(sides[0].table, gateways.of, gateways.numbers);
+      uint64_t wanted = kinds[LIBRARY]->begin(sides[LIBRARY].table, gateways.of, gateways.numbers);
       begin_all(&gateways, where, wanted);
       bad_lists += wanted != 0;
       continue;
