@@ -5,11 +5,11 @@
 //   parts count KIND LAPS  one kind alone over the first workload, for callgrind; prints the calls of a lap
 //   parts stack            bytes of stack below a call
 #include "bench.h"
+#include "timing.h"
 #include <pthread.h>
 #include <stdio.h>
 #include <stdlib.h>
 #include <string.h>
-#include <time.h>
 
 enum { MEM = 16384, ROOM = 2047, MOST = 8 * 256, KINDS = 4 };
 
@@ -237,53 +237,20 @@ static void check(void) {
   check_drawn(300000);
 }
 
-static double seconds(void) {
-  struct timespec t;
-  clock_gettime(CLOCK_MONOTONIC, &t);
-  return (double)t.tv_sec + (double)t.tv_nsec * 1e-9;
-}
-
-static int by_value(const void *a, const void *b) {
-  double x = *(const double *)a, y = *(const double *)b;
-  return (x > y) - (x < y);
-}
-
-struct times {
-  double best, median;
-};
-
 // The quotients that are printed, by the places of the kinds.
 enum { QUOTIENTS = 3 };
 static const size_t quotients[QUOTIENTS][2] = {{0, 2}, {1, 2}, {0, 3}};
 
-struct spread {
-  double quarter, half, three_quarters;
-};
+static size_t timed_laps;
 
-// Nanoseconds a call of each kind, so many times in turn; and the quotients, turn by turn, since the machine's speed changes from
-// one turn to another.
+static uint64_t run_kind(size_t k) { return kinds[k]->run(sides[k].table, &first.whole, &lap.whole, timed_laps, &sides[k].lent); }
+
 static void measure(const struct load *l, size_t repeats, struct times *times, struct spread *spreads) {
-  static double all[KINDS][1000], ratios[1000];
-  uint64_t sums[KINDS];
   make_laps(l);
   begin_all();
-  size_t laps = 20000 / lap.whole.count;
-  for (size_t r = 0; r < repeats; r++)
-    for (size_t k = 0; k < KINDS; k++) {
-      double start = seconds();
-      sums[k] = kinds[k]->run(sides[k].table, &first.whole, &lap.whole, laps, &sides[k].lent);
-      all[k][r] = (seconds() - start) * 1e9 / (double)(first.whole.count + laps * lap.whole.count);
-      if (sums[k] != sums[0]) fail("the answers differ");
-    }
-  for (size_t q = 0; q < QUOTIENTS; q++) {
-    for (size_t r = 0; r < repeats; r++) ratios[r] = all[quotients[q][0]][r] / all[quotients[q][1]][r];
-    qsort(ratios, repeats, sizeof(double), by_value);
-    spreads[q] = (struct spread){ratios[repeats / 4], ratios[repeats / 2], ratios[repeats * 3 / 4]};
-  }
-  for (size_t k = 0; k < KINDS; k++) {
-    qsort(all[k], repeats, sizeof(double), by_value);
-    times[k] = (struct times){all[k][0], all[k][repeats / 2]};
-  }
+  timed_laps = 20000 / lap.whole.count;
+  size_t calls = first.whole.count + timed_laps * lap.whole.count;
+  if (!measure_all(run_kind, KINDS, calls, repeats, QUOTIENTS, quotients, times, spreads)) fail("the answers differ");
 }
 
 static void print_row(const char *name, const struct load *l, size_t repeats) {

@@ -29,6 +29,10 @@ static bool has_mark(const Marks *m, bool b, size_t u, size_t e) {
   return false;
 }
 
-#include "rules.h"
-
+#ifdef FRAMES
+#include "frame.h"
+const struct frame_kind packed_frames = {"packed C", sizeof(struct table), begin, receive, run};
+#else
+#include "parts.h"
 const struct table_kind packed = {"packed C", sizeof(struct table), fresh, receive, run};
+#endif

@@ -19,6 +19,10 @@ static bool has_mark(const Marks *m, bool b, size_t u, size_t e) {
   return false;
 }
 
-#include "rules.h"
-
+#ifdef FRAMES
+#include "frame.h"
+const struct frame_kind plain_frames = {"plain C", sizeof(struct table), begin, receive, run};
+#else
+#include "parts.h"
 const struct table_kind plain = {"plain C", sizeof(struct table), fresh, receive, run};
+#endif

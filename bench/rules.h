@@ -136,40 +136,27 @@ static bool is_gateway(const struct table *t, const struct address *a) {
   return false;
 }
 
-static uint64_t receive_at(struct table *t, uint64_t time, const struct call *c, const struct lent *l) {
+// Checks 7 and 8; then the time is taken and old slots are freed. 0, or the refusal.
+static uint64_t take_time(struct table *t, uint64_t time, const struct lent *l) {
   if (l->mem.size < 16384 || l->out.size < 2047) return NO_ROOM;
   if (time < t->last) return EARLIER;
   t->last = time;
   for (size_t i = 0; i < 8; i++)
     if (t->slots[i].live && time - t->slots[i].since >= 60000) free_slot(&t->slots[i]);
-  struct key key = {.src = {1, c->src}, .dst = {1, c->dst}, .size = c->size, .tag = c->tag};
-  if (!is_gateway(t, &key.src)) return NOT_GATEWAY;
+  return 0;
+}
+
+// A part of a gateway: checks 10 to 12.
+static uint64_t take_part(struct table *t, uint64_t time, const struct key *key, const struct call *c, const struct lent *l) {
   if (!fits(c->size, (size_t)c->offset * 8, c->part.size)) return BAD_PART;
   for (size_t i = 0; i < 8; i++)
-    if (t->slots[i].live && same_key(&t->slots[i].key, &key)) return offer(&t->slots[i], l->mem.at + 2048 * i, c, l->out.at);
-  size_t i = to_open(t, &key.src);
+    if (t->slots[i].live && same_key(&t->slots[i].key, key)) return offer(&t->slots[i], l->mem.at + 2048 * i, c, l->out.at);
+  size_t i = to_open(t, &key->src);
   if (i == 8) return NO_SLOT;
   struct slot *s = &t->slots[i];
   free_slot(s);
   s->live = true;
-  s->key = key;
+  s->key = *key;
   s->since = time;
   return place(s, l->mem.at + 2048 * i, c, l->out.at);
-}
-
-static void fresh(void *table) {
-  struct table *t = table;
-  memset(t, 0, sizeof *t);
-  for (size_t i = 0; i < 4; i++) t->gateways[i] = (struct address){1, i + 1};
-}
-
-static uint64_t receive(void *table, const struct call *c, const struct lent *l) { return receive_at(table, c->time, c, l); }
-
-static uint64_t run(void *table, const struct calls *first, const struct calls *lap, size_t laps, const struct lent *l) {
-  uint64_t sum = 0;
-  fresh(table);
-  for (size_t i = 0; i < first->count; i++) sum += receive_at(table, 0, &first->of[i], l);
-  for (size_t k = 1; k <= laps; k++)
-    for (size_t i = 0; i < lap->count; i++) sum += receive_at(table, k, &lap->of[i], l);
-  return sum;
 }

@@ -1,0 +1,319 @@
+// The call on a frame, by the scope document, in plain C: the headers are read where they stand, the table of rules.h is
+// changed in place. Each check answers 0 or its refusal's number.
+#include "frames.h"
+#include "rules.h"
+
+// Bytes that are left to read.
+struct rest {
+  const uint8_t *at;
+  size_t left;
+};
+
+static const uint8_t *take(struct rest *r, size_t n) {
+  if (r->left < n) return NULL;
+  const uint8_t *p = r->at;
+  r->at += n;
+  r->left -= n;
+  return p;
+}
+
+// The MAC header.
+
+struct mac {
+  struct address src, dst;
+};
+
+// An address of a mode, least significant byte first.
+static bool read_address(struct rest *r, unsigned mode, struct address *a) {
+  size_t n = mode == 0 ? 0 : mode == 2 ? 2 : 8;
+  const uint8_t *p = take(r, n);
+  if (p == NULL) return false;
+  a->kind = mode == 0 ? 0 : mode == 2 ? 1 : 2;
+  a->number = 0;
+  for (size_t i = n; i > 0; i--) a->number = a->number << 8 | p[i - 1];
+  return true;
+}
+
+// Which PANs a frame carries.
+static void pans(unsigned version, unsigned dst, unsigned src, bool compressed, bool *dst_pan, bool *src_pan) {
+  if (version < 2) {
+    *dst_pan = dst != 0;
+    *src_pan = src != 0 && !(dst != 0 && compressed);
+  } else if (dst == 0 && src == 0) {
+    *dst_pan = compressed;
+    *src_pan = false;
+  } else if (src == 0 || (dst == 3 && src == 3)) {
+    *dst_pan = !compressed;
+    *src_pan = false;
+  } else {
+    *dst_pan = dst != 0;
+    *src_pan = !compressed;
+  }
+}
+
+// The addressing fields.
+static bool read_addressing(struct rest *r, unsigned version, unsigned dst, unsigned src, bool compressed, struct mac *m) {
+  bool dst_pan, src_pan;
+  pans(version, dst, src, compressed, &dst_pan, &src_pan);
+  if (dst_pan && take(r, 2) == NULL) return false;
+  if (!read_address(r, dst, &m->dst)) return false;
+  if (src_pan && take(r, 2) == NULL) return false;
+  return read_address(r, src, &m->src);
+}
+
+// The auxiliary security header: a control byte, the counter unless it is suppressed, the key identifier.
+static bool read_security(struct rest *r) {
+  static const uint8_t identifier[4] = {0, 1, 5, 9};
+  const uint8_t *control = take(r, 1);
+  return control != NULL && take(r, (*control & 0x20 ? 0 : 4) + identifier[*control >> 3 & 3]) != NULL;
+}
+
+// The MAC refusals, then 13.
+static uint64_t read_mac(struct rest *r, struct mac *m) {
+  if (r->left < 3) return CUT_SHORT;
+  if (r->left > 127) return BAD_LENGTH;
+  const uint8_t *f = take(r, 3);
+  unsigned type = f[0] & 7, version = f[1] >> 4 & 3, dst = f[1] >> 2 & 3, src = f[1] >> 6;
+  bool secured = f[0] & 0x08, compressed = f[0] & 0x40;
+  if (version == 3 || dst == 1 || src == 1 || (version < 2 && compressed && dst == 0 && src == 0)) return BAD_MODE;
+  bool addressed = type == 0 || type == 1 || type == 3 || type == 5 || (type == 2 && version == 2);
+  if (addressed && !read_addressing(r, version, dst, src, compressed, m)) return CUT_SHORT;
+  if (secured && !read_security(r)) return CUT_SHORT;
+  return secured || type != 1 ? NOT_TAKEN : 0;
+}
+
+// IPHC and UDP NHC, expanded to an IPv6 header and a UDP header.
+
+struct contexts {
+  const uint8_t *of; // 8 bytes each
+  size_t count;
+};
+
+enum { IPV6 = 40, UDP = 48, UDP_NUMBER = 17, HEADERS = 48, LONGEST = 127 };
+
+// An IPv6 address by context or link-local, of mode 01 to 11 or, carried in full, 00.
+static uint64_t read_unicast(struct rest *r, bool by_context, unsigned mode, unsigned number, const struct contexts *c, const struct address *link, uint8_t *ip) {
+  static const uint8_t link_local[8] = {0xfe, 0x80}, from_short[6] = {0, 0, 0, 0xff, 0xfe, 0};
+  const uint8_t *p;
+  if (mode == 0) {
+    if ((p = take(r, 16)) == NULL) return CUT_SHORT;
+    memcpy(ip, p, 16);
+    return 0;
+  }
+  if (mode == 1) {
+    if ((p = take(r, 8)) == NULL) return CUT_SHORT;
+    memcpy(ip + 8, p, 8);
+  } else if (mode == 2) {
+    if ((p = take(r, 2)) == NULL) return CUT_SHORT;
+    memcpy(ip + 8, from_short, 6);
+    memcpy(ip + 14, p, 2);
+  } else if (link->kind == 0) {
+    return NO_ADDRESS;
+  } else if (link->kind == 1) {
+    memcpy(ip + 8, from_short, 6);
+    ip[14] = (uint8_t)(link->number >> 8);
+    ip[15] = (uint8_t)link->number;
+  } else {
+    for (size_t i = 0; i < 8; i++) ip[8 + i] = (uint8_t)(link->number >> (56 - 8 * i));
+    ip[8] ^= 2;
+  }
+  if (by_context && number >= c->count) return NO_CONTEXT;
+  memcpy(ip, by_context ? c->of + 8 * number : link_local, 8);
+  return 0;
+}
+
+static uint64_t read_multicast(struct rest *r, unsigned mode, uint8_t *ip) {
+  static const uint8_t carried[4] = {16, 6, 4, 1};
+  size_t n = carried[mode];
+  const uint8_t *p = take(r, n);
+  if (p == NULL) return CUT_SHORT;
+  if (mode == 0) {
+    memcpy(ip, p, 16);
+    return 0;
+  }
+  memset(ip, 0, 16);
+  ip[0] = 0xff;
+  ip[1] = mode == 3 ? 2 : *p++;
+  if (mode != 3) n--;
+  memcpy(ip + 16 - n, p, n);
+  return 0;
+}
+
+// Traffic class and flow label.
+static bool read_traffic(struct rest *r, unsigned tf, uint8_t *ip) {
+  static const uint8_t carried[4] = {4, 3, 1, 0};
+  const uint8_t *p = take(r, carried[tf]);
+  if (p == NULL) return false;
+  unsigned class = tf == 3 ? 0 : p[0] >> 6;
+  if (tf == 0 || tf == 2) class |= (p[0] & 0x3fu) << 2;
+  ip[0] = (uint8_t)(0x60 | class >> 4);
+  ip[1] = (uint8_t)(class << 4);
+  ip[2] = tf < 2 ? p[carried[tf] - 2] : 0;
+  ip[3] = tf < 2 ? p[carried[tf] - 1] : 0;
+  return true;
+}
+
+// The IPHC header into an IPv6 header without its payload length. *udp: whether the next header is compressed too.
+static uint64_t read_iphc(struct rest *r, const struct mac *m, const struct contexts *c, uint8_t *ip, bool *udp) {
+  static const uint8_t hops[4] = {0, 1, 64, 255};
+  const uint8_t *p, *h = take(r, 2);
+  if (h == NULL) return CUT_SHORT;
+  if (h[0] >> 5 != 3) return OTHER_BITS;
+  unsigned identifiers = 0;
+  if (h[1] & 0x80) {
+    if ((p = take(r, 1)) == NULL) return CUT_SHORT;
+    identifiers = *p;
+  }
+  if (!read_traffic(r, h[0] >> 3 & 3, ip)) return CUT_SHORT;
+  *udp = h[0] & 4;
+  ip[6] = UDP_NUMBER;
+  if (!*udp) {
+    if ((p = take(r, 1)) == NULL) return CUT_SHORT;
+    ip[6] = *p;
+  }
+  ip[7] = hops[h[0] & 3];
+  if ((h[0] & 3) == 0) {
+    if ((p = take(r, 1)) == NULL) return CUT_SHORT;
+    ip[7] = *p;
+  }
+  unsigned sam = h[1] >> 4 & 3, dam = h[1] & 3;
+  bool sac = h[1] & 0x40, many = h[1] & 0x08, dac = h[1] & 0x04;
+  if (sac && sam == 0) {
+    memset(ip + 8, 0, 16);
+  } else {
+    uint64_t no = read_unicast(r, sac, sam, identifiers >> 4, c, &m->src, ip + 8);
+    if (no != 0) return no;
+  }
+  if (dac && (many || dam == 0)) return BAD_MODE;
+  if (many) return read_multicast(r, dam, ip + 24);
+  return read_unicast(r, dac, dam, identifiers & 15, c, &m->dst, ip + 24);
+}
+
+// The compressed UDP header into a UDP header without its length.
+static uint64_t read_udp(struct rest *r, uint8_t *udp, bool *elided) {
+  static const uint8_t carried[4] = {4, 3, 3, 1};
+  const uint8_t *h = take(r, 1);
+  if (h == NULL) return CUT_SHORT;
+  if (*h >> 4 == 14) return NOT_TAKEN;
+  if (*h >> 3 != 30) return OTHER_BITS;
+  unsigned ports = *h & 3;
+  const uint8_t *p = take(r, carried[ports]);
+  if (p == NULL) return CUT_SHORT;
+  if (ports == 3) {
+    udp[0] = udp[2] = 0xf0;
+    udp[1] = 0xb0 | p[0] >> 4;
+    udp[3] = 0xb0 | (p[0] & 15);
+  } else {
+    udp[0] = ports == 2 ? 0xf0 : *p++;
+    udp[1] = *p++;
+    udp[2] = ports == 1 ? 0xf0 : *p++;
+    udp[3] = *p;
+  }
+  *elided = *h & 4;
+  udp[6] = udp[7] = 0;
+  if (!*elided) {
+    if ((p = take(r, 2)) == NULL) return CUT_SHORT;
+    memcpy(udp + 6, p, 2);
+  }
+  return 0;
+}
+
+// Headers in full; what is left of r follows them.
+struct expanded {
+  size_t headers, total; // their bytes, and all bytes
+  bool udp, elided;
+};
+
+static uint64_t read_headers(struct rest *r, const struct mac *m, const struct contexts *c, uint8_t *to, struct expanded *e) {
+  e->elided = false;
+  uint64_t no = read_iphc(r, m, c, to, &e->udp);
+  if (no == 0 && e->udp) no = read_udp(r, to + IPV6, &e->elided);
+  e->headers = e->udp ? UDP : IPV6;
+  e->total = e->headers + r->left;
+  return no;
+}
+
+// The lengths of a datagram of so many bytes.
+static void put_lengths(uint8_t *to, const struct expanded *e, size_t size) {
+  to[4] = (uint8_t)((size - IPV6) >> 8);
+  to[5] = (uint8_t)(size - IPV6);
+  if (e->udp) memcpy(to + 44, to + 4, 2);
+}
+
+static uint64_t receive_whole(struct rest *r, const struct mac *m, const struct contexts *c, uint8_t *out) {
+  uint8_t headers[HEADERS];
+  struct expanded e;
+  uint64_t no = read_headers(r, m, c, headers, &e);
+  if (no != 0) return no;
+  put_lengths(headers, &e, e.total);
+  memcpy(out, headers, e.headers);
+  memcpy(out + e.headers, r->at, r->left);
+  if (e.elided) put_checksum(out, e.total);
+  return OUT + e.total;
+}
+
+static uint64_t receive_fragment(struct table *t, uint64_t time, struct rest *r, const struct mac *m, const struct contexts *c, const struct lent *l) {
+  uint8_t first[HEADERS + LONGEST];
+  const uint8_t *h = take(r, 4), *offset;
+  if (h == NULL) return CUT_SHORT;
+  struct key key = {m->src, m->dst, (uint16_t)((h[0] & 7) << 8 | h[1]), (uint16_t)(h[2] << 8 | h[3])};
+  struct call part = {.size = key.size};
+  if (h[0] >> 3 == 28) {
+    if ((offset = take(r, 1)) == NULL) return CUT_SHORT;
+    if (*offset == 0) return BAD_PART;
+    part.offset = *offset;
+    part.part = (struct slice){(uint8_t *)r->at, r->left};
+  } else {
+    struct expanded e;
+    uint64_t no = read_headers(r, m, c, first, &e);
+    if (no != 0) return no;
+    if (e.total > key.size) return BAD_PART;
+    put_lengths(first, &e, key.size);
+    memcpy(first + e.headers, r->at, r->left);
+    part.elided = e.elided;
+    part.part = (struct slice){first, e.total};
+  }
+  return take_part(t, time, &key, &part, l);
+}
+
+static uint64_t receive_at(struct table *t, uint64_t time, const struct frame_call *f, const struct lent *l) {
+  uint64_t no = take_time(t, time, l);
+  if (no != 0) return no;
+  struct rest r = {f->frame.at, f->frame.size};
+  struct contexts c = {f->contexts.at, f->contexts.size / 8};
+  struct mac m;
+  if ((no = read_mac(&r, &m)) != 0) return no;
+  if (!is_gateway(t, &m.src)) return NOT_GATEWAY;
+  if (m.dst.kind == 0) return NO_ADDRESS;
+  if (r.left == 0) return CUT_SHORT;
+  unsigned dispatch = r.at[0] >> 3;
+  if (dispatch == 24 || dispatch == 28) return receive_fragment(t, time, &r, &m, &c, l);
+  if (dispatch >> 2 == 3) return receive_whole(&r, &m, &c, l->out.at);
+  return OTHER_BITS;
+}
+
+static uint64_t begin(void *table, const uint64_t *gateways, size_t numbers) {
+  struct table *t = table;
+  size_t count = numbers / 2;
+  if (count > 4) return BAD_GATEWAYS;
+  for (size_t i = 0; i < count; i++) {
+    if (gateways[2 * i] == 0) return BAD_GATEWAYS;
+    for (size_t j = 0; j < i; j++)
+      if (gateways[2 * i] == gateways[2 * j] && gateways[2 * i + 1] == gateways[2 * j + 1]) return BAD_GATEWAYS;
+  }
+  memset(t, 0, sizeof *t);
+  for (size_t i = 0; i < count; i++) t->gateways[i] = (struct address){(uint8_t)gateways[2 * i], gateways[2 * i + 1]};
+  return 0;
+}
+
+static uint64_t receive(void *table, const struct frame_call *c, const struct lent *l) { return receive_at(table, c->time, c, l); }
+
+static uint64_t run(void *table, const struct frame_run *r, const struct lent *l) {
+  uint64_t sum = 0;
+  begin(table, r->gateways, r->gateway_numbers);
+  for (size_t k = 0; k <= r->laps; k++) {
+    const struct frame_calls *list = k == 0 ? &r->first : &r->lap;
+    for (size_t i = 0; i < list->count; i++) sum += (i + 1) * receive_at(table, k + list->of[i].time, &list->of[i], l);
+  }
+  return sum;
+}
