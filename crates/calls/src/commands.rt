@@ -182,31 +182,7 @@ fn call(
     )
 }
 
-// A line that is no remark.
-fn command(
-    line: &[u8],
-    session: Session,
-    scratch: &mut [u8],
-    lent: &mut [u8],
-    datagram: &mut [u8],
-    out: &mut [u8],
-    to: usize,
-) -> Done {
-    let end = find(line, 0, b' ');
-    if line.len() < end {
-        return bad(session, out, to);
-    }
-    let name = &line[0..end];
-    if same(name, b"gateways") {
-        return gateways(line, end + 1, session, out, to);
-    }
-    if same(name, b"call") {
-        return call(line, end + 1, session, scratch, lent, datagram, out, to);
-    }
-    bad(session, out, to)
-}
-
-// Puts the answer to a line, and its end.
+// Puts the answer to a line.
 pub fn answer_line(
     line: &[u8],
     session: Session,
@@ -217,16 +193,18 @@ pub fn answer_line(
     to: usize,
 ) -> Done {
     if field::at(line, 0) == b'#' {
-        let n = print::text(out, to, line);
         return Done {
             session,
-            to: print::put(out, n, b'\n'),
+            to: print::text(out, to, line),
         };
     }
-    let d = command(line, session, scratch, lent, datagram, out, to);
-    let after = d.session;
-    Done {
-        session: after,
-        to: print::put(out, d.to, b'\n'),
+    let name = field::upto(line, find(line, 0, b' '));
+    let next = name.len() + 1;
+    if same(name, b"gateways") {
+        return gateways(line, next, session, out, to);
     }
+    if same(name, b"call") {
+        return call(line, next, session, scratch, lent, datagram, out, to);
+    }
+    bad(session, out, to)
 }

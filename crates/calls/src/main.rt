@@ -47,12 +47,12 @@ fn stopped(session: Session) -> Progress {
     }
 }
 
-// A run that goes on, its output written out.
-fn drained(unread: Unread, session: Session) -> Progress {
+// A run that goes on.
+fn going(unread: Unread, session: Session, to: usize) -> Progress {
     Progress {
         unread,
         session,
-        to: 0,
+        to,
         more: true,
     }
 }
@@ -80,59 +80,6 @@ fn make_room(out: &[u8], to: usize, len: usize) -> usize {
     to
 }
 
-// Answers the line that ends at `end`, unless it is the rest of one that was too long.
-fn end_line(
-    input: &[u8],
-    end: usize,
-    r: Progress,
-    scratch: &mut [u8],
-    lent: &mut [u8],
-    datagram: &mut [u8],
-    out: &mut [u8],
-) -> Progress {
-    let session = r.session;
-    let u = r.unread;
-    let start = u.start;
-    if end < start {
-        return stopped(session);
-    }
-    if input.len() <= end {
-        return stopped(session);
-    }
-    let next = end + 1;
-    let unread = Unread {
-        start: next,
-        from: next,
-        have: u.have,
-        skip: false,
-    };
-    if u.skip {
-        return Progress {
-            unread,
-            session,
-            to: r.to,
-            more: true,
-        };
-    }
-    let to = make_room(out, r.to, end - start);
-    let d = commands::answer_line(
-        &input[start..end],
-        session,
-        scratch,
-        lent,
-        datagram,
-        out,
-        to,
-    );
-    let after = d.session;
-    Progress {
-        unread,
-        session: after,
-        to: d.to,
-        more: to != field::NONE,
-    }
-}
-
 // The input is full and holds no end of a line: the line is answered once, and what is there of it forgotten.
 fn too_long(u: Unread, session: Session) -> Progress {
     let unread = Unread {
@@ -142,10 +89,10 @@ fn too_long(u: Unread, session: Session) -> Progress {
         skip: true,
     };
     if u.skip {
-        return drained(unread, session);
+        return going(unread, session, 0);
     }
     if io::write_all(1, b"bad long\n") {
-        return drained(unread, session);
+        return going(unread, session, 0);
     }
     stopped(session)
 }
@@ -168,7 +115,7 @@ fn read_on(input: &mut [u8], n: usize, skip: bool, session: Session) -> Progress
             have: n + more,
             skip,
         };
-        return drained(unread, session);
+        return going(unread, session, 0);
     }
     if n == 0 {
         return stopped(session);
@@ -180,7 +127,7 @@ fn read_on(input: &mut [u8], n: usize, skip: bool, session: Session) -> Progress
         have: n + 1,
         skip,
     };
-    drained(unread, session)
+    going(unread, session, 0)
 }
 
 // No line ends in what was read: the answers go out, what is left moves to the front, and more is read.
@@ -206,7 +153,12 @@ fn refill(input: &mut [u8], r: Progress, out: &[u8]) -> Progress {
     read_on(input, n, u.skip, session)
 }
 
-// Answers a line, or reads once where none has ended.
+// How many bytes stand from one place to another.
+fn between(start: usize, end: usize) -> usize {
+    if start < end { end - start } else { 0 }
+}
+
+// Answers a line, passes over the rest of one that was too long, or reads once where none has ended.
 fn step(
     input: &mut [u8],
     r: Progress,
@@ -218,10 +170,29 @@ fn step(
     let u = r.unread;
     let have = u.have;
     let end = line::find(field::upto(input, have), u.from, b'\n');
-    if end < have {
-        return end_line(input, end, r, scratch, lent, datagram, out);
+    if have <= end {
+        return refill(input, r, out);
     }
-    refill(input, r, out)
+    let unread = Unread {
+        start: end + 1,
+        from: end + 1,
+        have,
+        skip: false,
+    };
+    let session = r.session;
+    if u.skip {
+        return going(unread, session, r.to);
+    }
+    let line = field::part(input, u.start, between(u.start, end));
+    let to = make_room(out, r.to, line.len());
+    let d = commands::answer_line(line, session, scratch, lent, datagram, out, to);
+    let after = d.session;
+    Progress {
+        unread,
+        session: after,
+        to: print::put(out, d.to, b'\n'),
+        more: to != field::NONE,
+    }
 }
 
 // Nothing says that the input ends, so the steps are counted down from a number that no run uses up.
@@ -233,7 +204,7 @@ fn run(input: &mut [u8], scratch: &mut [u8], lent: &mut [u8], datagram: &mut [u8
         have: 0,
         skip: false,
     };
-    let mut r = drained(unread, session);
+    let mut r = going(unread, session, 0);
     let mut steps = u64::MAX;
     while 0 < steps {
         r = step(input, r, scratch, lent, datagram, out);

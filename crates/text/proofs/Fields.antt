@@ -8,8 +8,9 @@ use mathlib.Core.Path.{_≡_, refl, sym, ap, _∙_}
 use mathlib.Core.Bool.{Bool, true, false, _&&_}
 use lib.ListN.{length, getD, set, take, drop, length-drop, List·getD-eq-default, drop-of-length-le}
 use lib.Seq.{drop-cons, drop-drop, getD-drop, take-all}
+use lib.Bits.{bitOr, or-lt, or-add-and, and-le-l, and-le-r}
 use lib.Dec.{eqb, leb, ltb}
-use borrow.Author.Tests.{eq-eqb, ne-eqb, le-leb, lt-leb, lt-ltb, le-ltb, leb-true}
+use borrow.Author.Tests.{eq-eqb, ne-eqb, le-leb, lt-leb, lt-ltb, le-ltb, leb-true, ltb-true, ltb-false, eqb-true, eqb-false}
 use Rattle.octets.specs.Read.{choose}
 use Rattle.octets.specs.Write.{put}
 use Rattle.bytes.specs.Bytes.{indexOf, indexAfter}
@@ -95,6 +96,39 @@ nibble-small b =
     small-go (leb 97 b && leb b 102) (leb 48 b && leb b 57) b
     (λ e. leb-true b 102 (second (leb 97 b) (leb b 102) e))
     (λ e. leb-true b 57 (second (leb 48 b) (leb b 57) e))
+
+-- ---- digits joined bit by bit: below 16 where none is a stray byte's 16
+-- the stray bytes that are left to count, where those before are joined to w
+abbrev pub uncounted : ℕ → ℕ → ℕ
+uncounted w t = choose (ltb w 16) t 1
+
+joins-go : (x w d t : ℕ) (p q : Bool) → ltb w 16 ≡ p → ltb d 16 ≡ q → d ≤ 16 → w ≤ x → d ≤ x → (w < 16 → d < 16 → x < 16) → eqb (uncounted x t) 0 ≡ eqb (uncounted w (d / 16 + t)) 0
+joins-go x w d t true true e g h i j f =
+    let m : d / 16 + t ≡ t = omega (arith, ltb-true d 16 g) in
+    rw (lt-ltb x 16 (f (ltb-true w 16 e) (ltb-true d 16 g)), e, m) refl
+joins-go x w d t true false e g h i j f =
+    rw (le-ltb x 16 (omega (arith, ltb-false d 16 g)), e) (sym (ne-eqb (d / 16 + t) 0 (λ z. omega (arith, z, ltb-false d 16 g))))
+joins-go x w d t false q e g h i j f = rw (le-ltb x 16 (omega (arith, ltb-false w 16 e)), e) refl
+
+pub joins : (w d t : ℕ) → d ≤ 16 → eqb (uncounted (bitOr w d) t) 0 ≡ eqb (uncounted w (d / 16 + t)) 0
+joins w d t h =
+    joins-go (bitOr w d) w d t (ltb w 16) (ltb d 16) refl refl h
+    (omega (arith, or-add-and w d, and-le-r w d))
+    (omega (arith, or-add-and w d, and-le-l w d))
+    (λ p q. or-lt 4 w d p q)
+
+pub counted : (w k : ℕ) → eqb (uncounted w 0) 0 ≡ eqb k 0 → w < 16 → k ≡ 0
+counted w k e h = let f : eqb k 0 ≡ true = sym e ∙ rw (lt-ltb w 16 h) refl in eqb-true k 0 f
+
+pub some-left : (w k : ℕ) → eqb (uncounted w 0) 0 ≡ eqb k 0 → 16 ≤ w → k ≡ 0 → ⊥
+some-left w k e h = let f : eqb k 0 ≡ false = sym e ∙ rw (le-ltb w 16 h) refl in eqb-false k 0 f
+
+pub all-counted : (w k : ℕ) → eqb (uncounted w 0) 0 ≡ eqb k 0 → ltb w 16 ≡ eqb k 0
+all-counted w k e = all-go (ltb w 16) (eqb k 0) e
+  where
+    all-go : (p q : Bool) → eqb (choose p 0 1) 0 ≡ q → p ≡ q
+    all-go true q f = f
+    all-go false q f = f
 
 -- ---- a number of digits: what is read, and what is left to read
 pub hex-step : (v i d : ℕ) (s : List ℕ) → i < length s → d ≡ nibbleOf (getD s i 0) → hexOf (v % 2 ^ 60 * 16 + d % 16) (drop (i + 1) s) ≡ hexOf v (drop i s)
@@ -234,6 +268,14 @@ module _ (n i hi lo : ℕ) (s : List ℕ) (h : i < n) (p : hi ≡ nibbleOf (getD
       ∙ ap (λ y. nibbleOf (getD (drop (i * 2) s) 0 0) / 16 + y / 16 + strayPairs (n - (i + 1)) (drop 2 (drop (i * 2) s))) low
       ∙ ap (λ k. strayPairs k (drop (i * 2) s)) (sym left)
 
+  pub pair-joins : (w : ℕ) → eqb (uncounted (bitOr (bitOr w hi) lo) (strayPairs (n - (i + 1)) (drop ((i + 1) * 2) s))) 0 ≡ eqb (uncounted w (strayPairs (n - i) (drop (i * 2) s))) 0
+  pair-joins w =
+      let t : ℕ = strayPairs (n - (i + 1)) (drop ((i + 1) * 2) s) in
+      let m : hi / 16 + (lo / 16 + t) ≡ strayPairs (n - i) (drop (i * 2) s) = omega (arith, stray-pair-step) in
+      joins (bitOr w hi) lo t (omega (arith, q, nibble-small (getD s (i * 2 + 1) 0)))
+      ∙ joins w hi (lo / 16 + t) (omega (arith, p, nibble-small (getD s (i * 2) 0)))
+      ∙ ap (λ k. eqb (uncounted w k) 0) m
+
 pub pairs-start : (n : ℕ) (s room : List ℕ) → put 0 (pairsOf (n - 0) (drop (0 * 2) s)) room ≡ put 0 (pairsOf n s) room
 pairs-start n s room = ap (λ k. put 0 (pairsOf k s) room) (sub-zero n)
 
@@ -261,9 +303,9 @@ module _ (n : ℕ) (s room : List ℕ) where
   unfolding arePairs pairsIn
   no-pairs h g = (rw (le-leb n (length room) h, lt-leb n (length s / 2) g) refl, rw (le-leb n (length room) h, lt-leb n (length s / 2) g) refl)
 
-  pub are-pairs : n ≤ length room → n ≤ length s / 2 → (k : ℕ) → k ≡ strayPairs n s → eqb k 0 ≡ arePairs n s room
+  pub are-pairs : n ≤ length room → n ≤ length s / 2 → (t : Bool) → t ≡ eqb (strayPairs n s) 0 → t ≡ arePairs n s room
   unfolding arePairs
-  are-pairs h g k e = rw (le-leb n (length room) h, le-leb n (length s / 2) g, e) refl
+  are-pairs h g t e = rw (le-leb n (length room) h, le-leb n (length s / 2) g) e
 
   pub pairs-in : n ≤ length room → n ≤ length s / 2 → put 0 (pairsOf n s) room ≡ pairsIn n s room
   unfolding pairsIn

@@ -100,17 +100,17 @@ fn value(s: &[u8], end: usize) -> NumberText
     ensures { λ r. ⌜ r ≡ hexAt (now (s .entry)) end ⌝ }
 {
     let mut value: u64 = 0;
-    let mut strays: usize = 0;
+    let mut worst: u8 = 0;
     let mut i: usize = 0;
     while i < s.len() {
         let d = nibble(s[i]);
-        strays = strays + (d / 16) as usize;
+        worst = worst | d;
         value = value % 0x1000_0000_0000_0000 * 16 + (d % 16) as u64;
         i += 1;
     }
     NumberText {
         value,
-        next: if strays == 0 { end } else { NONE },
+        next: if worst < 16 { end } else { NONE },
     }
 }
 
@@ -196,16 +196,16 @@ fn pairs(s: &[u8], room: &mut [u8], n: usize) -> bool
     if s.len() / 2 < n {
         return false;
     }
-    let mut strays: usize = 0;
+    let mut worst: u8 = 0;
     let mut i: usize = 0;
     while i < n {
         let hi = nibble(s[i * 2]);
         let lo = nibble(s[i * 2 + 1]);
-        strays = strays + (hi / 16) as usize + (lo / 16) as usize;
+        worst = worst | hi | lo;
         room[i] = hi % 16 * 16 + lo % 16;
         i += 1;
     }
-    strays == 0
+    worst < 16
 }
 
 // How many bytes a field from one place to another holds: '-' none, pairs of digits one each; NONE where it is neither.

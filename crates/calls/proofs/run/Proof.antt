@@ -13,8 +13,8 @@ abbrev μ-loop : tie.MeasureT-loop
 start-requires : tie.Need-start-requires Inv-loop μ-loop
 start-requires c κs = search needs
 
-drained-requires : tie.Need-drained-requires Inv-loop μ-loop
-drained-requires c κs = search needs
+going-requires : tie.Need-going-requires Inv-loop μ-loop
+going-requires c κs = search needs
 
 loop-holds : tie.Need-loop-holds Inv-loop μ-loop
 loop-holds c = search needs
@@ -74,7 +74,7 @@ run-spec =
     Inv-loop
     μ-loop
     start-requires
-    drained-requires
+    going-requires
     loop-holds
     step-requires
     same-length
