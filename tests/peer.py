@@ -1,9 +1,10 @@
-"""Compares model.py with tshark. Started by `peer`, which README.md describes.
+"""Compares the receiver with tshark. Started by `peer`, which README.md describes.
 
 Frames of random datagrams are written as a pcap file of link type 230 (IEEE 802.15.4 without frame check). tshark
-decompresses and puts together what it finds there; model.py takes the same frames. Each datagram that model.py hands out
-is compared byte by byte with the bytes that tshark shows for the same frame, and with the datagram that was cut. Then
-all datagrams with an elided checksum are written as a pcap file of plain IPv6, and tshark judges model.py's checksums.
+decompresses and puts together what it finds there; ours, the program `calls` or else model.py, takes the same frames. Each
+datagram that ours hands out is compared byte by byte with the bytes that tshark shows for the same frame, and with the
+datagram that was cut. Then all datagrams with an elided checksum are written as a pcap file of plain IPv6, and tshark
+judges the checksums that ours computed.
 """
 
 import argparse
@@ -24,6 +25,7 @@ DESTINATIONS = [f.BROADCAST, f.short(0xabcd), f.extended(0xa1a2a3a4a5a6a7a8)]
 CONTEXTS = [f.ip("2001:db8:1:2::")[:8], f.ip("fd00:aaaa:bbbb:cccc::")[:8], f.ip("2001:db8:ffff:1::")[:8]]
 WORLD = scenes.World(GATEWAYS, [f.short(9)], DESTINATIONS, CONTEXTS)
 IEEE802154_NOFCS, IPV6 = 230, 229
+CALLS = os.path.join(os.path.dirname(os.path.abspath(__file__)), "..", "target", "bin", "calls")
 
 
 def pcap(path, link_type, packets):
@@ -126,20 +128,39 @@ def datagrams_shown(pieces, one):
     return whole
 
 
-def compare(sent, order, shown):
-    """What model.py hands out against tshark's bytes for the same frame, and against what was sent."""
+def by_program(program, order):
+    """What the program `calls` answers to each frame: the datagram that it hands out, or the words."""
+    lines = ["gateways " + " ".join(model.address_text(one) for one in GATEWAYS)]
+    lines += [f"call {i} {frame.hex()} {b''.join(CONTEXTS).hex()} 16384 2047" for i, (_, frame) in enumerate(order)]
+    done = subprocess.run([program], input="\n".join(lines).encode() + b"\n", stdout=subprocess.PIPE, check=True)
+    answers = [line.split(" |")[0] for line in done.stdout.decode().split("\n")[:-1]]
+    if len(answers) != len(lines) or answers[0] != "ok":
+        sys.exit(f"{program}: {len(lines)} lines, {len(answers)} answers")
+    return [bytes.fromhex(text.split(" ")[2]) if text.startswith("out ") else text for text in answers[1:]]
+
+
+def by_model(order):
+    """The same of model.py."""
     table = model.Table(GATEWAYS)
     mem, out = bytearray(model.LENT_BYTES), bytearray(model.OUTPUT_BYTES)
+    answers = []
+    for i, (_, frame) in enumerate(order):
+        answer = table.call(i, frame, b"".join(CONTEXTS), mem, out)
+        answers.append(bytes(out[:answer[1]]) if answer[0] == "out" else " ".join(str(word) for word in answer))
+    return answers
+
+
+def compare(sent, order, shown, answers):
+    """What ours hands out against tshark's bytes for the same frame, and against what was sent."""
     handed, wrong, tally = [], 0, {}
     for i, (one, frame) in enumerate(order):
-        answer = table.call(i, frame, b"".join(CONTEXTS), mem, out)
+        ours = answers[i]
         whole = datagrams_shown(shown[i], one)
-        if answer[0] != "out":
-            if answer != ("kept",) or whole:
+        if isinstance(ours, str):
+            if ours != "kept" or whole:
                 wrong += 1
-                print(f"frame {i} ({one.kind}): model.py {answer}, tshark {len(whole)} datagrams; {frame.hex()}")
+                print(f"frame {i} ({one.kind}): ours {ours}, tshark {len(whole)} datagrams; {frame.hex()}")
             continue
-        ours = bytes(out[:answer[1]])
         handed.append((one, ours))
         tally[one.kind] = tally.get(one.kind, 0) + 1
         theirs = whole[0] if whole else b""
@@ -149,7 +170,7 @@ def compare(sent, order, shown):
             judged = ours[:46] + b"\xff\xff" + ours[48:]
         if judged != theirs or ours != one.datagram:
             wrong += 1
-            print(f"frame {i} ({one.kind}): {frame.hex()}\n  sent   {one.datagram.hex()}\n  model  {ours.hex()}\n"
+            print(f"frame {i} ({one.kind}): {frame.hex()}\n  sent   {one.datagram.hex()}\n  ours   {ours.hex()}\n"
                   f"  tshark {theirs.hex()}")
     if len(handed) != len(sent):
         wrong += 1
@@ -158,7 +179,7 @@ def compare(sent, order, shown):
 
 
 def judge_checksums(handed, folder):
-    """tshark's own judgement of the checksums that model.py computed, and of the same ones with a bit turned."""
+    """tshark's own judgement of the checksums that ours computed, and of the same ones with a bit turned."""
     path = os.path.join(folder, "checksums.pcap")
     right = [ours for one, ours in handed if one.elided]
     turned = [ours[:47] + bytes([ours[47] ^ 1]) + ours[48:] for ours in right]
@@ -169,7 +190,8 @@ def judge_checksums(handed, folder):
 
 
 def main():
-    parser = argparse.ArgumentParser(description="model.py against tshark")
+    parser = argparse.ArgumentParser(description="the receiver against tshark")
+    parser.add_argument("--table", default=CALLS if os.path.exists(CALLS) else "", help="the program calls; '' for model.py")
     parser.add_argument("--count", type=int, default=400)
     parser.add_argument("--seed", type=int, default=1)
     given = parser.parse_args()
@@ -181,10 +203,12 @@ def main():
         shown = hex_dumps(tshark(path, "-x"))
         if len(shown) != len(order):
             sys.exit(f"{len(order)} frames, tshark shows {len(shown)}")
-        handed, wrong, tally = compare(sent, order, shown)
+        answers = by_program(given.table, order) if given.table else by_model(order)
+        handed, wrong, tally = compare(sent, order, shown, answers)
         elided, good, turned = judge_checksums(handed, folder)
     kinds = ", ".join(f"{count} {kind}" for kind, count in sorted(tally.items()))
-    print(f"{len(order)} frames, {len(handed)} datagrams ({kinds}): {wrong} differ from tshark")
+    who = "the program calls" if given.table else "model.py"
+    print(f"{who}: {len(order)} frames, {len(handed)} datagrams ({kinds}): {wrong} differ from tshark")
     print(f"{elided} computed checksums: tshark finds {good} right; with a bit turned it finds {turned} right")
     sys.exit(1 if wrong or good != elided or turned else 0)
 
