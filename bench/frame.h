@@ -306,14 +306,4 @@ static uint64_t begin(void *table, const uint64_t *gateways, size_t numbers) {
   return 0;
 }
 
-static uint64_t receive(void *table, const struct frame_call *c, const struct lent *l) { return receive_at(table, c->time, c, l); }
-
-static uint64_t run(void *table, const struct frame_run *r, const struct lent *l) {
-  uint64_t sum = 0;
-  begin(table, r->gateways, r->gateway_numbers);
-  for (size_t k = 0; k <= r->laps; k++) {
-    const struct frame_calls *list = k == 0 ? &r->first : &r->lap;
-    for (size_t i = 0; i < list->count; i++) sum += (i + 1) * receive_at(table, k + list->of[i].time, &list->of[i], l);
-  }
-  return sum;
-}
+#include "frame_run.h"
