@@ -2,6 +2,7 @@
 // FILE has the workloads as `bench/sent loads` writes them.
 //
 //   frames check FILE             every workload gets the answers that stand in the file, and all four leave the same bytes
+//   frames stack                  the same as `drawn`, and how deep the stack goes
 //   frames drawn                  the same answers, memory and output after every call of standard input (`bench/sent drawn`)
 //   frames time FILE REPEATS      nanoseconds a call, best (median): each so many times in turn, 20,000 calls at a time
 //   frames count FILE KIND ROW LAPS  one kind alone over a workload, for callgrind; prints the calls of a lap
@@ -9,6 +10,7 @@
 // A difference ends with status 1.
 #define _GNU_SOURCE
 #include "frames.h"
+#include "stack.h"
 #include "timing.h"
 #include <stdio.h>
 #include <string.h>
@@ -200,9 +202,49 @@ static void check_loads(void) {
   printf("%zu workloads, %zu calls: the answers and datagrams as sent, the same slot memory and output after each\n", load_count, calls);
 }
 
+// The deepest stack of a call, and of making a table, by kind; the loop's is that of a run, its table among it.
+static struct depth {
+  size_t calls, begin;
+} deepest[KINDS];
+static const struct frame_run *deep_run;
+
+static void *nothing(void *side) { return side; }
+
+static void *deep_begin(void *kind) {
+  const size_t k = *(const size_t *)kind;
+  kinds[k]->begin(sides[k].table, deep_run->gateways, deep_run->gateway_numbers);
+  return NULL;
+}
+
+static void *deep_calls(void *kind) {
+  const size_t k = *(const size_t *)kind;
+  struct lent l = lent_of(k, MEM, ROOM);
+  if (kinds[k]->receive == NULL) kinds[k]->run(sides[k].table, deep_run, &l);
+  else
+    for (size_t i = 0; i < deep_run->first.count; i++) kinds[k]->receive(sides[k].table, &deep_run->first.of[i], &l);
+  return NULL;
+}
+
+static size_t more_of(size_t a, size_t b) { return a < b ? b : a; }
+
+static void deepen(const struct frame_run *r) {
+  size_t k = 0, empty = stack_of(nothing, &k);
+  deep_run = r;
+  clear();
+  for (k = 0; k < KINDS; k++) {
+    deepest[k].begin = more_of(deepest[k].begin, stack_of(deep_begin, &k) - empty);
+    deepest[k].calls = more_of(deepest[k].calls, stack_of(deep_calls, &k) - empty);
+  }
+}
+
+static void print_depths(void) {
+  printf("\n| | table, bytes | stack of a call, bytes | of making a table |\n|---|---|---|---|\n");
+  for (size_t k = 0; k < KINDS; k++) printf("| %s | %zu | %zu | %zu |\n", kinds[k]->name, kinds[k]->size, deepest[k].calls, deepest[k].begin);
+}
+
 // Drawn calls, a run at a time; those of a run with rooms of the usual size once more as a whole, by the loop too.
 
-static void check_drawn(void) {
+static void check_drawn(bool depths) {
   static const struct list none;
   static struct list run;
   static uint64_t seen[OUT + 1];
@@ -216,6 +258,7 @@ static void check_drawn(void) {
     if (!more || strncmp(line, "gateways", 8) == 0) {
       struct frame_run r = run_of(&gateways, &run, &none, 0);
       check_run(&r, where);
+      if (depths) deepen(&r);
       looped += run.count;
       run.count = used = 0;
       if (!more) break;
@@ -297,11 +340,12 @@ int main(int argc, char **argv) {
   const char *what = argc > 1 ? argv[1] : "";
   if (argc > 2) read_loads(argv[2]);
   if (argc == 3 && strcmp(what, "check") == 0) check_loads();
-  else if (argc == 2 && strcmp(what, "drawn") == 0) check_drawn();
+  else if (argc == 2 && strcmp(what, "drawn") == 0) check_drawn(false);
+  else if (argc == 2 && strcmp(what, "stack") == 0) check_drawn(true), print_depths();
   else if (argc == 4 && strcmp(what, "time") == 0 && atoi(argv[3]) >= 1 && atoi(argv[3]) <= MOST_REPEATS) print_times((size_t)atoi(argv[3]));
   else if (argc == 6 && strcmp(what, "count") == 0) count(argv[3], (size_t)atoi(argv[4]), (size_t)atoi(argv[5]));
   else {
-    fprintf(stderr, "usage: frames check FILE | drawn | time FILE REPEATS | count FILE KIND ROW LAPS\n");
+    fprintf(stderr, "usage: frames check FILE | drawn | stack | time FILE REPEATS | count FILE KIND ROW LAPS\n");
     return 2;
   }
   return 0;

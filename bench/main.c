@@ -5,8 +5,8 @@
 //   parts count KIND LAPS  one kind alone over the first workload, for callgrind; prints the calls of a lap
 //   parts stack            bytes of stack below a call
 #include "bench.h"
+#include "stack.h"
 #include "timing.h"
-#include <pthread.h>
 #include <stdio.h>
 #include <stdlib.h>
 #include <string.h>
@@ -298,10 +298,6 @@ static void count(const char *name, size_t laps) {
   fail("no table is called so");
 }
 
-// The stack: calls run on a thread whose stack was filled with one byte before, and the bytes that changed are counted.
-enum { STACK = 1 << 18, FILL = 0xa5 };
-static _Alignas(4096) uint8_t stack[STACK];
-
 static void *drawn_calls(void *side) {
   struct side *s = side;
   uint64_t state = 42, time = 0;
@@ -317,19 +313,6 @@ static void *whole_run(void *side) {
   struct side *s = side;
   s->kind->run(s->table, &first.whole, &lap.whole, 2, &s->lent);
   return NULL;
-}
-
-static size_t stack_of(void *(*what)(void *), void *side) {
-  pthread_t thread;
-  pthread_attr_t attr;
-  memset(stack, FILL, STACK);
-  pthread_attr_init(&attr);
-  pthread_attr_setstack(&attr, stack, STACK);
-  if (pthread_create(&thread, &attr, what, side) != 0) abort();
-  pthread_join(thread, NULL);
-  size_t untouched = 0;
-  while (untouched < STACK && stack[untouched] == FILL) untouched++;
-  return STACK - untouched;
 }
 
 static uint64_t no_call(void *table, const struct call *c, const struct lent *l) {

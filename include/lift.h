@@ -67,8 +67,7 @@ uint32_t lift_begin(lift_table *t, const uint64_t *gateways, size_t numbers);
  * The answer is a kind in the high 16 bits and a number in the low 16; lift_kind and lift_number take it apart:
  *
  *   LIFT_KEPT     0    the frame is a part of a datagram that is not whole yet, or the repeat of one. out is as it was.
- *   LIFT_OUT      L    a datagram of L bytes stands at the start of out; the rest of out is as it was. (L is 40 to 2,047 by the
- *                      rules for parts; what is proved of the number itself is that it fits its 16 bits.)
+ *   LIFT_OUT      L    a datagram of L bytes, 40 to 2,047, stands at the start of out; the rest of out is as it was.
  *   LIFT_REFUSED  R    the frame is refused for reason R, below. mem and out are as they were, to the last byte.
  *
  * A refusal other than 7 and 8 takes the time too, and frees slots that are 60,000 ms old or older; 11 frees its slot. */

@@ -6,6 +6,7 @@ use mathlib.Core.Bool.{Bool, true, false}
 use mathlib.Core.Path.{_≡_, refl, sym, ap, subst, _∙_}
 use lib.ListN.{length, getD}
 use lib.Dec.{eqb, ltb}
+use borrow.Author.Tests.{ltb-false}
 use Rattle.octets.specs.Read.{is, refused, Placed, Read, Reader, got, andThen, choose, branch, _>>=_, give, refuse, byte, le16, le64, skip}
 use Rattle.octets.proofs.Spans.{Spans, not-refused, spans-give, spans-refuse, spans-then, spans-branch, spans-byte, spans-skip, spans-le16, spans-le64}
 use Rattle.ieee802154.specs.Control.{controlOf, supported, hasAddressing, carried}
@@ -194,3 +195,13 @@ mac-go s h n false false e = e
 pub mac-length : (s : List ℕ) (h : Repr) (n : ℕ) → mac s ≡ got h n → (n ≡ headerLength s) × (n ≤ length s)
 unfolding mac
 mac-length s h n e = header-length s h n (mac-go s h n (ltb (length s) 3) (ltb 127 (length s)) e)
+
+-- a frame of over 127 bytes has no header
+over-go : (s : List ℕ) (h : Repr) (n : ℕ) (t u : Bool) → choose t (refused 1) (choose u (refused 4) (header s 0)) ≡ got h n → u ≡ false
+over-go s h n true u e = not-refused _ 1 e
+over-go s h n false true e = not-refused _ 4 e
+over-go s h n false false e = refl
+
+pub mac-short : (s : List ℕ) (h : Repr) (n : ℕ) → mac s ≡ got h n → length s ≤ 127
+unfolding mac
+mac-short s h n e = ltb-false 127 (length s) (over-go s h n (ltb (length s) 3) (ltb 127 (length s)) e)

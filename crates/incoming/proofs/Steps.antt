@@ -9,14 +9,17 @@ use lib.ListN.{length, take, drop, length-append}
 use lib.Seq.{take-at}
 use lib.Dec.{leb, eqb}
 use borrow.Author.Tests.{le-leb, lt-leb, eq-eqb, ne-eqb}
-use Rattle.octets.specs.Read.{Answer, is, refused, andThen, choose}
+use Rattle.octets.specs.Read.{Answer, is, refused, Placed, Read, andThen, choose}
 use Rattle.octets.specs.Refusal.{numberOf}
 use Rattle.octets.specs.declared.refusal.Refusal.{Refusal}
 use Rattle.octets.specs.declared.refusal.Refusal.the-variants.{BadPart, NoRoom}
 use Rattle.octets.specs.declared.field.WordField.{WordField}
 use Rattle.octets.proofs.Steps.{on-is, on-refused}
 use Rattle.octets.proofs.Spans.{not-refused}
+use Rattle.ieee802154.specs.Mac.{mac}
 use Rattle.ieee802154.specs.declared.addr.AddressField.{AddressField}
+use Rattle.ieee802154.specs.declared.header.Repr as Mac
+use Rattle.ieee802154.proofs.Lengths.{mac-short}
 use Rattle.sixlowpan.specs.declared.dispatch.SixlowpanPacket.{SixlowpanPacket}
 use Rattle.sixlowpan.specs.declared.dispatch.SixlowpanPacket.the-variants.{FragmentHeader, IphcHeader}
 use Rattle.sixlowpan.specs.Dispatch.{ofDispatch, dispatch}
@@ -30,10 +33,19 @@ use Rattle.sixlowpan.specs.declared.frag.Repr.the-variants.{FirstFragment, Frag
 use Rattle.expand.specs.Expand.{Expansion, Measure, expansion, ofExpanded, measureOf, answered, written}
 use Rattle.expand.specs.declared.datagram.Expanded.{Expanded}
 use Rattle.expand.proofs.Datagrams.{expansion-made, at-most-175}
-use Rattle.incoming.specs.Incoming.{ofArrival, Brought, datagram, part, scratchAfter, whole, piece, fragment, payload, payloadIn, Brings}
+use Rattle.incoming.specs.Incoming.{ofArrival, arrival, Brought, datagram, part, scratchAfter, whole, piece, fragment, payload, payloadIn, Brings}
 use Rattle.incoming.specs.declared.arrival.Arrival.{Arrival}
 use Rattle.incoming.specs.declared.payload.Payload.{Payload}
 use Rattle.incoming.specs.declared.arrival.ArrivalAnswer.{ArrivalAnswer}
+
+-- ---- a frame that is judged has at most 127 bytes
+short-go : {B : Type 0} (s : List ℕ) (m : Read Mac.Repr) → mac s ≡ m → (k : Placed Mac.Repr → Answer B) (b : B) → andThen m k ≡ is b → length s ≤ 127
+short-go s (is p) q k b e = mac-short s (p .value) (p .next) q
+short-go s (refused n) q k b e = not-refused _ n e
+
+pub arrival-short : (s : List ℕ) (a : Arrival) → arrival s ≡ is a → length s ≤ 127
+unfolding arrival
+arrival-short s a e = short-go s (mac s) refl _ a e
 
 -- ---- an expansion m of at most 175 bytes, into a room of 175 at least
 Small : Answer Expansion → Type 0

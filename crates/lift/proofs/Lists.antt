@@ -5,7 +5,7 @@ use mathlib.Core.Path.{_≡_, refl, sym, ap, _∙_}
 use mathlib.Core.Bool.{Bool, true, false, _||_}
 use mathlib.Core.List.{List, [], _∷_, map}
 use lib.ListN.{length, getD, take}
-use lib.Dec.{ltb}
+use lib.Dec.{eqb, ltb}
 use borrow.Author.Tests.{lt-ltb, ltb-false}
 use Rattle.octets.specs.Read.{Answer, is, refused, choose}
 use Rattle.octets.specs.Refusal.{numberOf}
@@ -82,7 +82,7 @@ module _ (l : List ℕ) (four-of : List Address) (n : ℕ) (are : four-of ≡ ad
       by-order n 4 (λ h. rw (same-nodes h) (ap (λ z. refusedList z (gateways l)) many))
       (λ h. long h (nodes n four-of) ∙ sym (rw (sym many) (long h (gateways l))))
 
-  module _ (t x : Table) (y : Listed) (b : Begins y x n four-of) where
+  module _ (x : Table) (y : Listed) (b : Begins y x n four-of) where
     not-refused : y ≡ Listed.Accepted → refusedList n (nodes n four-of) ≡ false
     unfolding listed
     not-refused e = by-test (refusedList n (nodes n four-of)) (λ h. cc (ap ofListed e, b .answer, ap verdict h)) (λ h. h)
@@ -99,17 +99,17 @@ module _ (l : List ℕ) (four-of : List Address) (n : ℕ) (are : four-of ≡ ad
         accepted : {m : ℕ} → no m ≡ is tt → true ≡ false
         accepted q = cc q
 
-    pub begun-list : y ≡ Listed.Accepted → (0 ≡ begun l) × (x ≡ tableBegun t l)
+    pub begun-list : y ≡ Listed.Accepted → (0 ≡ begun l) × ((t : Table) → choose (eqb 0 0) x t ≡ tableBegun t l)
     unfolding begun tableBegun made refusedList
     begun-list e =
         let h = not-refused e in
         let k : refusesList l ≡ false = sym same-refusal ∙ h in
         let few : n ≤ 4 = ltb-false 4 n (or-left (ltb 4 n) _ h) in
-        (rw k refl, rw k (b .table ∙ rw h (ap fresh (same-nodes few))))
+        (rw k refl, λ t. rw k (b .table ∙ rw h (ap fresh (same-nodes few))))
 
-    pub refused-list : (r : Refusal) → y ≡ Listed.Refused r → (numberOf r ≡ begun l) × (t ≡ tableBegun t l)
+    pub refused-list : (r : Refusal) → y ≡ Listed.Refused r → (j : ℕ) → j ≡ numberOf r → (j ≡ begun l) × ((t : Table) → choose (eqb j 0) x t ≡ tableBegun t l)
     unfolding begun tableBegun
-    refused-list r e =
+    refused-list r e j q =
         let h = is-refused r e in
         let k : refusesList l ≡ true = sym same-refusal ∙ h .0 in
-        (rw k (h .1), rw k refl)
+        (rw k (q ∙ h .1), λ t. rw (k, q ∙ h .1) refl)

@@ -4,22 +4,45 @@
 // What each number means is in specs/Face.antt; the answer, the table and every lent byte after a call are those of the slot
 // table's `step`, as for the by-value call `receiver::receive`.
 ghost use mathlib.Core.Path.{_≡_};
-ghost use Prim.Native.Nat.{_<_};
-ghost use Rattle.reassembly.specs.Slots.{nodeOf, free, held};
-ghost use Rattle.reassembly.specs.Parts.{ofOutcome};
+ghost use Prim.Native.Nat.{_<_, _≤_};
+ghost use lib.ListN.{length, take};
+ghost use lib.Dec.{eqb};
+ghost use Rattle.octets.specs.Read.{choose};
+ghost use Rattle.reassembly.specs.Lists.{firstAt};
+ghost use Rattle.reassembly.specs.Slots.{nodeOf, owner, isKey, gatesOf, free, held, opening};
+ghost use Rattle.reassembly.specs.Parts.{partOf, ofOutcome};
+ghost use Rattle.reassembly.specs.Table.{takeAt, Lands};
+ghost use Rattle.reassembly.specs.declared.table.Table.{Table};
+ghost use Rattle.receiver.specs.Carried.{partIn};
 ghost use Rattle.lift.specs.Face.{packed, InHalf, addressOf, addressAt, begun, tableBegun, received, Answers};
+ghost use Rattle.lift.specs.InPlace.{judged, isTaken, atOnce, Told, PutAt, TakesIn, ReceivesIn};
+use expand::copy::put_part;
 use ieee802154::Address;
+use reassembly::InSlot;
+use reassembly::Key;
 use reassembly::Listed;
 use reassembly::Node;
 use reassembly::Outcome;
+use reassembly::Slot;
 use reassembly::Table;
 use reassembly::count_free;
 use reassembly::count_held;
-use receiver::receive;
+use reassembly::is_short;
+use reassembly::part::fits;
+use reassembly::take_at;
+use receiver::Carried;
+use receiver::What;
+use sixlowpan::frag::Units;
 
 // The answer of a call as a number, and the table after it.
 pub struct Lifted {
     pub table: Table,
+    pub answer: u32,
+}
+
+// The answer to a part as a number, and the slot's record after it.
+pub struct Put {
+    pub slot: Slot,
     pub answer: u32,
 }
 
@@ -51,9 +74,9 @@ fn address_at(gateways: &[u64], i: usize) -> Address
     Address::Absent
 }
 
-// A table of these gateways, at its beginning; the table as it was where the list is refused.
-pub fn begin(table: Table, gateways: &[u64]) -> Lifted
-    ensures { λ r. ⌜ (r .answer ≡ begun (now (gateways .entry))) × (r .table ≡ tableBegun table (now (gateways .entry))) ⌝ }
+// A table of these gateways, at its beginning, and 0; where the list is refused, 14, and a table without gateways.
+fn begin(gateways: &[u64]) -> Lifted
+    ensures { λ r. ⌜ (r .answer ≡ begun (now (gateways .entry))) × ((t : Table) → choose (eqb (r .answer) 0) (r .table) t ≡ tableBegun t (now (gateways .entry))) ⌝ }
 {
     let a = address_at(gateways, 0);
     let b = address_at(gateways, 1);
@@ -69,7 +92,7 @@ pub fn begin(table: Table, gateways: &[u64]) -> Lifted
             answer: 0,
         },
         Listed::Refused(e) => Lifted {
-            table,
+            table: made,
             answer: e.number() as u32,
         },
     }
@@ -86,29 +109,104 @@ fn pack(o: Outcome) -> u32
     }
 }
 
-// A frame that comes at a time.
-pub fn receive_packed(
-    table: Table,
-    time: u64,
-    frame: &[u8],
-    contexts: &[u8],
-    mem: &mut [u8],
-    out: &mut [u8],
-) -> Lifted
-    ensures { λ r. ⌜ Answers (r .answer) (r .table) (now (mem .exit)) (now (out .entry)) (now (out .exit)) (received table time (now (frame .entry)) (now (contexts .entry)) (now (mem .entry)) (now (out .entry))) ⌝ }
+// Whether the call is taken, before its frame is looked at: 0 where it is, 1 where old slots are to be freed first; otherwise
+// the answer, refusal 7 or 8.
+fn judge(table: Table, time: u64, mem: usize, out: usize) -> u32
+    ensures { λ r. ⌜ r ≡ judged table time mem out ⌝ }
 {
-    let r = receive(table, time, frame, contexts, mem, out);
-    let outcome = r.answer;
-    let after = r.table;
-    let answer = pack(outcome);
-    Lifted {
-        table: after,
-        answer,
+    if is_short(mem, out) {
+        return 131079;
+    }
+    if time < table.last {
+        return 131080;
+    }
+    if table.is_due(time) { 1 } else { 0 }
+}
+
+// Whether a frame carries a part that its datagram can have.
+fn is_taken(c: Carried) -> bool
+    ensures { λ r. ⌜ r ≡ isTaken c ⌝ }
+{
+    let what = c.what;
+    match what {
+        What::Part => {
+            let key = c.key;
+            fits(key.size, c.offset, c.size())
+        }
+        What::Whole => false,
+        What::Refused(_) => false,
     }
 }
 
+// The answer to a frame that no slot is for: a whole datagram goes to the output's start, a part is refused, 10.
+fn answer(c: Carried, out: &mut [u8]) -> u32
+    ensures { λ r. ⌜ Told r (now (out .entry)) (now (out .exit)) (atOnce c) ⌝ }
+{
+    let what = c.what;
+    match what {
+        What::Part => 131082,
+        What::Whole => {
+            let bytes = c.bytes;
+            let n = c.size();
+            put_part(out, 0, &bytes, 0, n);
+            65536 + (n as u32)
+        }
+        What::Refused(e) => 131072 + (e.number() as u32),
+    }
+}
+
+// The slot that is open under the key of what a frame carries, or 8.
+fn find(table: Table, c: Carried) -> usize
+    ensures { λ r. ⌜ r ≡ firstAt (isKey (c .key)) (table .slots) ⌝ }
+{
+    let key = c.key;
+    table.find(key)
+}
+
+// The slot that what a frame carries may open, or 8.
+fn to_open(table: Table, c: Carried) -> usize
+    ensures { λ r. ⌜ r ≡ opening (owner (c .key)) (gatesOf table) (table .slots) ⌝ }
+{
+    let key = c.key;
+    let g = key.src;
+    reassembly::to_open(table, g)
+}
+
+// A part for slot i, whose record is s: the first n of these bytes, which are lent whole so that they are not copied.
+fn take_first(
+    s: Slot,
+    i: usize,
+    time: u64,
+    key: Key,
+    offset: Units,
+    elided: bool,
+    n: usize,
+    bytes: &[u8],
+    mem: &mut [u8],
+    out: &mut [u8],
+) -> InSlot
+    requires { ⌜ n ≤ length (now bytes) ⌝ }
+    ensures { λ r. ⌜ Lands r i (now (mem .entry)) (now (mem .exit)) (now (out .entry)) (now (out .exit)) (takeAt s i time (partOf key (offset .0) elided (take n (now (bytes .entry)))) (now (mem .entry)) (now (out .entry))) ⌝ }
+{
+    take_at(s, i, time, key, offset, elided, &bytes[0..n], mem, out)
+}
+
+// The part that a frame carries, for slot i, whose record is s.
+fn put_at(s: Slot, i: usize, time: u64, c: Carried, mem: &mut [u8], out: &mut [u8]) -> Put
+    ensures { λ r. ⌜ PutAt r i (now (mem .entry)) (now (mem .exit)) (now (out .entry)) (now (out .exit)) (takeAt s i time (partIn c) (now (mem .entry)) (now (out .entry))) ⌝ }
+{
+    let n = c.size();
+    let key = c.key;
+    let offset = c.offset;
+    let d = take_first(s, i, time, key, offset, c.elided, n, &c.bytes, mem, out);
+    let outcome = d.outcome;
+    let slot = d.slot;
+    let answer = pack(outcome);
+    Put { slot, answer }
+}
+
 // How many slots the gateway of this kind and number holds.
-pub fn held_by(table: Table, kind: u64, number: u64) -> usize
+fn held_by(table: Table, kind: u64, number: u64) -> usize
     ensures { λ r. ⌜ r ≡ held (nodeOf (addressOf kind number)) (table .slots) ⌝ }
 {
     let g = address_of(kind, number);
@@ -120,9 +218,46 @@ pub fn held_by(table: Table, kind: u64, number: u64) -> usize
 pub extern "C" fn lift_begin(t: &mut Table, gateways: &[u64]) -> u32
     ensures { λ r. ⌜ (r ≡ begun (now (gateways .entry))) × (now (t .exit) ≡ tableBegun (now (t .entry)) (now (gateways .entry))) ⌝ }
 {
-    let r = begin(*t, gateways);
-    *t = r.table;
+    let r = begin(gateways);
+    if r.answer == 0 {
+        *t = r.table;
+    }
     r.answer
+}
+
+// A part that its datagram can have, to a table whose old slots are freed: in its slot, or in one that it opens.
+fn take(t: &mut Table, time: u64, c: Carried, mem: &mut [u8], out: &mut [u8]) -> u32
+    ensures { λ r. ⌜ TakesIn (now (t .entry)) time c r (now (t .exit)) (now (mem .entry)) (now (mem .exit)) (now (out .entry)) (now (out .exit)) ⌝ }
+{
+    let mut i = find(*t, c);
+    if i == 8 {
+        i = to_open(*t, c);
+    }
+    if i < 8 {
+        let s = t.slots[i];
+        let d = put_at(s, i, time, c, mem, out);
+        t.slots[i] = d.slot;
+        return d.answer;
+    }
+    131084
+}
+
+// A frame, to a table that has taken the time and whose old slots are freed.
+fn receive_timed(
+    t: &mut Table,
+    time: u64,
+    frame: &[u8],
+    contexts: &[u8],
+    mem: &mut [u8],
+    out: &mut [u8],
+) -> u32
+    ensures { λ r. ⌜ ReceivesIn (now (t .entry)) time (now (frame .entry)) (now (contexts .entry)) r (now (t .exit)) (now (mem .entry)) (now (mem .exit)) (now (out .entry)) (now (out .exit)) ⌝ }
+{
+    let c = Carried::read(t.gateways, frame, contexts);
+    if is_taken(c) {
+        return take(t, time, c, mem, out);
+    }
+    answer(c, out)
 }
 
 // Hands the table a frame that comes at a time. Answers 0 where a part was kept, 65,536 and a datagram's length, or 131,072
@@ -138,9 +273,15 @@ pub extern "C" fn lift_receive(
 ) -> u32
     ensures { λ r. ⌜ Answers r (now (t .exit)) (now (mem .exit)) (now (out .entry)) (now (out .exit)) (received (now (t .entry)) time (now (frame .entry)) (now (contexts .entry)) (now (mem .entry)) (now (out .entry))) ⌝ }
 {
-    let r = receive_packed(*t, time, frame, contexts, mem, out);
-    *t = r.table;
-    r.answer
+    let w = judge(*t, time, mem.len(), out.len());
+    if 1 < w {
+        return w;
+    }
+    if w == 1 {
+        *t = t.aged(time);
+    }
+    t.last = time;
+    receive_timed(t, time, frame, contexts, mem, out)
 }
 
 // How many slots are free.

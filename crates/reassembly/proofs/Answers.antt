@@ -17,7 +17,7 @@ use Rattle.octets.specs.declared.refusal.Refusal.{Refusal}
 use Rattle.reassembly.specs.Lists.{count, firstAt, those}
 use Rattle.reassembly.specs.Slots.{present, owner, freeSlot, opened, isFree, isKey, expired, expire1, expire, gatesOf, isGate, free, mayOpen, opening}
 use Rattle.reassembly.specs.Parts.{Part, partOf, Reply, out, refused, fitsIn, fits, Put, place, offer, Placeable}
-use Rattle.reassembly.specs.Table.{Call, State, Result, other, part, short, chunk, withSlots, untouched, slotsAt, pass, land, whereKey, whereFree, offerAt, openAt, takePart, step, lentCall, At, Lands, Gives}
+use Rattle.reassembly.specs.Table.{Call, State, Result, other, part, short, chunk, withSlots, untouched, slotsAt, pass, land, whereKey, whereFree, offerAt, openAt, takePart, step, lentCall, At, Lands, Gives, Aged}
 use Rattle.reassembly.specs.declared.slot.Key.{Key}
 use Rattle.reassembly.specs.declared.slot.Slot.{Slot}
 use Rattle.reassembly.specs.declared.part.Outcome.{Outcome}
@@ -26,7 +26,7 @@ use Rattle.reassembly.specs.declared.table.Table.{Table}
 use Rattle.reassembly.specs.declared.table.Received.{Received}
 use Rattle.reassembly.proofs.Tests.{by-test, and-left, and-right}
 use Rattle.reassembly.proofs.Lists.{getD-any, firstAt-holds, firstAt-found}
-use Rattle.reassembly.proofs.Gateways.{isKey-key, mayOpen-rule}
+use Rattle.reassembly.proofs.Gateways.{isKey-key, expire1-young, mayOpen-rule}
 use Rattle.reassembly.proofs.Memory.{length-chunk}
 
 -- ---- the loop that frees in place
@@ -61,6 +61,16 @@ aged-more t zero (s ∷ l) d h = refl
 aged-more t (suc i) [] d h = refl
 aged-more t (suc i) (s ∷ l) d h = ap (λ z. expire1 t s ∷ z) (aged-more t i l d (le-of-suc-le-suc h))
 
+-- where none is old, nothing is freed
+pub none-old : (t : ℕ) (l : List Slot) → count (expired t) l ≡ 0 → expire t l ≡ l
+unfolding count expire
+none-old t [] e = refl
+none-old t (s ∷ l) e = by-test (expired t s)
+    (λ h. let z : 1 + count (expired t) l ≡ 0 = rw h at e in absurd (omega arith))
+    (λ h.
+    let z : 0 + count (expired t) l ≡ 0 = rw h at e in
+    rw (expire1-young t s h, none-old t l (omega arith)))
+
 -- a turn of the loop: the slot is freed, or stays
 module _ (t : ℕ) (l l′ : List Slot) (i : ℕ) (d : Slot) (e : l′ ≡ agedTo t i l) (h : i < length l) where
   pub aged-turn : (f : Slot) → f ≡ freeSlot → expired t (getD l′ i d) ≡ true → set l′ i f ≡ agedTo t (i + 1) l
@@ -74,12 +84,6 @@ module _ (t : ℕ) (l l′ : List Slot) (i : ℕ) (d : Slot) (e : l′ ≡ agedT
   aged-stay p =
       let z : expire1 t (getD l′ i d) ≡ getD l′ i d = rw p in
       rw (add-one, ← aged-more t i l d h, ← e, z) (sym (set-getD l′ i d))
-
--- x has the slots of tb as a call at t finds them
-pub record Aged (tb x : Table) (t : ℕ) : Type 0 where
-  pub slots : x .slots ≡ expire t (tb .slots)
-  pub gates : x .gateways ≡ tb .gateways
-  pub eight : length (x .slots) ≡ 8
 
 pub aged-of : (tb x : Table) (t i : ℕ) → length (tb .slots) ≡ 8 → 8 ≤ i → x .slots ≡ agedTo t i (tb .slots) → x .gateways ≡ tb .gateways → Aged tb x t
 aged-of tb x t i n h e g = record {
@@ -145,7 +149,7 @@ module _ (tb : Table) (m o : List ℕ) (t : ℕ) (c : Call) where
 
 -- a call that brings no part: the time is taken, old slots are freed, and it is answered
 module _ (tb : Table) (m o : List ℕ) (t : ℕ) (enough : (ltb (length m) 16384 || ltb (length o) 2047) ≡ false) (late : tb .last ≤ t) (x : Table) (e : x ≡ withSlots tb t (expire t (tb .slots))) where
-  others : (a : Reply (List ℕ)) → step (state tb m) (lentCall m o (other t a)) ≡ pass (state tb m) t a
+  pub others : (a : Reply (List ℕ)) → step (state tb m) (lentCall m o (other t a)) ≡ pass (state tb m) t a
   unfolding step lentCall
   others a = rw (enough, le-ltb t (tb .last) late)
 
@@ -169,7 +173,7 @@ module _ (tb : Table) (m o : List ℕ) (t : ℕ) (p : Part) where
       unfolding slotsAt
       slots-are = sym (G .slots)
 
-      table-is : record { slots = x .slots; last = t; gateways = x .gateways } ≡ withSlots tb t (slotsAt t (state tb m))
+      pub table-is : record { slots = x .slots; last = t; gateways = x .gateways } ≡ withSlots tb t (slotsAt t (state tb m))
       unfolding withSlots
       table-is = rw (slots-are, G .gates)
 
@@ -177,17 +181,22 @@ module _ (tb : Table) (m o : List ℕ) (t : ℕ) (p : Part) where
       unfolding gatesOf
       gates-are = rw (G .gates)
 
-      passes : (r : Refusal) → takePart (state tb m) t p ≡ pass (state tb m) t (refused (numberOf r))
+      -- what is left of x: as it is, or with another slot
+      pub table-with : (i : ℕ) (s : Slot) → record { slots = set (x .slots) i s; last = t; gateways = x .gateways } ≡ withSlots tb t (set (slotsAt t (state tb m)) i s)
+      unfolding withSlots
+      table-with i s = rw (slots-are, G .gates)
+
+      gives-pass : (r : Refusal) → step (state tb m) (lentCall m o (part t p)) ≡ pass (state tb m) t (refused (numberOf r))
           → Gives (record { answer = Outcome.Refused r; table = record { slots = x .slots; last = t; gateways = x .gateways } }) m o o (step (state tb m) (lentCall m o (part t p)))
       unfolding pass
-      passes r e = rw (timed, e) record { answer = refl; table = table-is; memory = refl; output = refl }
+      gives-pass r e = rw e record { answer = refl; table = table-is; memory = refl; output = refl }
 
-      landed : (i n : ℕ) (q : Put) (d : InSlot) (m′ o′ : List ℕ) → takePart (state tb m) t p ≡ land (state tb m) t i n q → Lands d i m m′ o o′ q
+      gives-land : (i n : ℕ) (q : Put) (d : InSlot) (m′ o′ : List ℕ) → step (state tb m) (lentCall m o (part t p)) ≡ land (state tb m) t i n q → Lands d i m m′ o o′ q
           → Gives (record { answer = d .outcome; table = record { slots = set (x .slots) i (d .slot); last = t; gateways = x .gateways } }) m′ o o′ (step (state tb m) (lentCall m o (part t p)))
-      unfolding land withSlots
-      landed i n q d m′ o′ e D = rw (timed, e) record {
+      unfolding land
+      gives-land i n q d m′ o′ e D = rw e record {
         answer = D .answer;
-        table = rw (slots-are, D .slot, G .gates);
+        table = rw (D .slot) (table-with i (q .slot));
         memory = D .memory;
         output = D .output;
       }
@@ -195,44 +204,56 @@ module _ (tb : Table) (m o : List ℕ) (t : ℕ) (p : Part) where
       pub gives-9 : isGate (owner (p .key)) (those present (x .gateways)) ≡ false
           → Gives (record { answer = Outcome.Refused Refusal.NotGateway; table = record { slots = x .slots; last = t; gateways = x .gateways } }) m o o (step (state tb m) (lentCall m o (part t p)))
       unfolding takePart
-      gives-9 h = passes Refusal.NotGateway (rw (sym gates-are ∙ h))
+      gives-9 h = gives-pass Refusal.NotGateway (timed ∙ rw (sym gates-are ∙ h))
 
       module _ (known : isGate (owner (p .key)) (those present (x .gateways)) ≡ true) where
+        pub step-10 : fits p ≡ false → step (state tb m) (lentCall m o (part t p)) ≡ pass (state tb m) t (refused 10)
+        unfolding takePart
+        step-10 h = timed ∙ rw (sym gates-are ∙ known, h)
+
         pub gives-10 : fits p ≡ false
             → Gives (record { answer = Outcome.Refused Refusal.BadPart; table = record { slots = x .slots; last = t; gateways = x .gateways } }) m o o (step (state tb m) (lentCall m o (part t p)))
-        unfolding takePart
-        gives-10 h = passes Refusal.BadPart (rw (sym gates-are ∙ known, h))
+        gives-10 h = gives-pass Refusal.BadPart (step-10 h)
 
         module _ (good : fits p ≡ true) (f : ℕ) (at : firstAt (isKey (p .key)) (x .slots) ≡ f) where
           where-is : whereKey (p .key) t (state tb m) ≡ f
           unfolding whereKey
           where-is = rw slots-are at
 
+          pub step-offer : f < 8 → (d : Slot) → step (state tb m) (lentCall m o (part t p)) ≡ land (state tb m) t f 0 (offer (getD (x .slots) f d) (chunk f m) p)
+          unfolding takePart offerAt
+          step-offer h d =
+              let s : getD (slotsAt t (state tb m)) f freeSlot ≡ getD (x .slots) f d = rw slots-are (getD-any (x .slots) f freeSlot d (omega (arith, G .eight))) in
+              timed ∙ rw (sym gates-are ∙ known, good, where-is, lt-ltb f 8 h, s)
+
           pub gives-offer : f < 8 → (d : Slot) (r : InSlot) (m′ o′ : List ℕ) → Lands r f m m′ o o′ (offer (getD (x .slots) f d) (chunk f m) p)
               → Gives (record { answer = r .outcome; table = record { slots = set (x .slots) f (r .slot); last = t; gateways = x .gateways } }) m′ o o′ (step (state tb m) (lentCall m o (part t p)))
-          unfolding takePart offerAt
-          gives-offer h d r m′ o′ D =
-              let s : getD (slotsAt t (state tb m)) f freeSlot ≡ getD (x .slots) f d = rw slots-are (getD-any (x .slots) f freeSlot d (omega (arith, G .eight))) in
-              landed f 0 (offer (getD (x .slots) f d) (chunk f m) p) r m′ o′ (rw (sym gates-are ∙ known, good, where-is, lt-ltb f 8 h, s)) D
+          gives-offer h d r m′ o′ D = gives-land f 0 (offer (getD (x .slots) f d) (chunk f m) p) r m′ o′ (step-offer h d) D
 
           module _ (none : 8 ≤ f) (low : ℕ) (opens : opening (owner (p .key)) (those present (x .gateways)) (x .slots) ≡ low) where
-            pub gives-open : low < 8 → (r : InSlot) (m′ o′ : List ℕ) → Lands r low m m′ o o′ (place (opened (p .key) t) (chunk low m) p)
-                → Gives (record { answer = r .outcome; table = record { slots = set (x .slots) low (r .slot); last = t; gateways = x .gateways } }) m′ o o′ (step (state tb m) (lentCall m o (part t p)))
+            pub step-open : low < 8 → step (state tb m) (lentCall m o (part t p)) ≡ land (state tb m) t low 1 (place (opened (p .key) t) (chunk low m) p)
             unfolding takePart openAt whereFree opening gatesOf
-            gives-open h r m′ o′ D = by-test (mayOpen (owner (p .key)) (those present (x .gateways)) (x .slots))
+            step-open h = by-test (mayOpen (owner (p .key)) (those present (x .gateways)) (x .slots))
                 (λ e.
                 let w : firstAt isFree (x .slots) ≡ low = rw e at opens in
-                landed low 1 (place (opened (p .key) t) (chunk low m) p) r m′ o′ (rw (sym gates-are ∙ known, good, where-is, le-ltb f 8 none, slots-are, ← G .gates, e, w)) D)
+                timed ∙ rw (sym gates-are ∙ known, good, where-is, le-ltb f 8 none, slots-are, ← G .gates, e, w))
                 (λ e.
                 let w : 8 ≡ low = rw e at opens in
                 absurd (omega arith))
 
-            pub gives-12 : 8 ≤ low
-                → Gives (record { answer = Outcome.Refused Refusal.NoSlot; table = record { slots = x .slots; last = t; gateways = x .gateways } }) m o o (step (state tb m) (lentCall m o (part t p)))
+            pub gives-open : low < 8 → (r : InSlot) (m′ o′ : List ℕ) → Lands r low m m′ o o′ (place (opened (p .key) t) (chunk low m) p)
+                → Gives (record { answer = r .outcome; table = record { slots = set (x .slots) low (r .slot); last = t; gateways = x .gateways } }) m′ o o′ (step (state tb m) (lentCall m o (part t p)))
+            gives-open h r m′ o′ D = gives-land low 1 (place (opened (p .key) t) (chunk low m) p) r m′ o′ (step-open h) D
+
+            pub step-12 : 8 ≤ low → step (state tb m) (lentCall m o (part t p)) ≡ pass (state tb m) t (refused 12)
             unfolding takePart opening gatesOf free
-            gives-12 h = by-test (mayOpen (owner (p .key)) (those present (x .gateways)) (x .slots))
+            step-12 h = by-test (mayOpen (owner (p .key)) (those present (x .gateways)) (x .slots))
                 (λ e.
                 let w : firstAt isFree (x .slots) ≡ low = rw e at opens in
                 let r : 1 ≤ count isFree (x .slots) = mayOpen-rule (owner (p .key)) (those present (x .gateways)) (x .slots) e .room in
                 absurd (omega (arith, G .eight, firstAt-found isFree (x .slots) r)))
-                (λ e. passes Refusal.NoSlot (rw (sym gates-are ∙ known, good, where-is, le-ltb f 8 none, slots-are, ← G .gates, e)))
+                (λ e. timed ∙ rw (sym gates-are ∙ known, good, where-is, le-ltb f 8 none, slots-are, ← G .gates, e))
+
+            pub gives-12 : 8 ≤ low
+                → Gives (record { answer = Outcome.Refused Refusal.NoSlot; table = record { slots = x .slots; last = t; gateways = x .gateways } }) m o o (step (state tb m) (lentCall m o (part t p)))
+            gives-12 h = gives-pass Refusal.NoSlot (step-12 h)

@@ -9,5 +9,6 @@ pub mod Answers
 pub mod Fresh
 pub mod Fits
 pub mod OneSlot
+pub mod AtSlot
 pub mod Origin
 pub mod Promises

@@ -171,6 +171,11 @@ module _ {A : Type 0} where
       go false e ih h′ = let r = ih (omega arith) in omega arith
 
   -- where nothing is counted, there is none
+  pub firstAt-most : (f : A → Bool) (l : List A) → firstAt f l ≤ length l
+  unfolding firstAt
+  firstAt-most f [] = omega arith
+  firstAt-most f (y ∷ ys) = let h = firstAt-most f ys in by-test (f y) (λ e. rw e (omega arith)) (λ e. rw e (omega arith))
+
   pub firstAt-none : (f : A → Bool) (l : List A) → count f l ≡ 0 → firstAt f l ≡ length l
   unfolding firstAt count
   firstAt-none f [] h = refl

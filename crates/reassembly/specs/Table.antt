@@ -88,6 +88,20 @@ offerAt σ t p i = land σ t i 0 (offer (getD (slotsAt t σ) i freeSlot) (chunk 
 unfoldable pub openAt : State → ℕ → Part → ℕ → Result
 openAt σ t p i = land σ t i 1 (place (opened (p .key) t) (chunk i (σ .mem)) p)
 
+-- a slot that a refusal leaves as it was
+unfoldable pub stays : Slot → ℕ → List ℕ → ℕ → Put
+stays s i m n = record { reply = refused n; slot = s; bytes = chunk i m; ended = 0; took = false }
+
+-- a part for slot i, whose record is s, at a time t at which s is not old: 7, 10, 12 where there is no slot i, then 11 or it is taken
+unfoldable pub takeAt : Slot → ℕ → ℕ → Part → List ℕ → List ℕ → Put
+takeAt s i t p m o =
+    choose (ltb (length m) 16384 || ltb (length o) 2047) (stays s i m 7)
+    (choose (fits p)
+    (choose (ltb i 8)
+    (choose (isKey (p .key) s) (offer s (chunk i m) p) (place (opened (p .key) t) (chunk i m) p))
+    (stays s i m 12))
+    (stays s i m 10))
+
 -- 9, 10, then 11 or 12
 unfoldable pub takePart : State → ℕ → Part → Result
 takePart σ t p =
@@ -135,6 +149,12 @@ pub record Gives (r : Received) (m o₀ o : List ℕ) (q : Result) : Type 0 wher
   pub table : r .table ≡ q .state .table
   pub memory : m ≡ q .state .mem
   pub output : o ≡ outputAfter (q .reply) o₀
+
+-- x has the slots of tb as a call at t finds them
+pub record Aged (tb x : Table) (t : ℕ) : Type 0 where
+  pub slots : x .slots ≡ expire t (tb .slots)
+  pub gates : x .gateways ≡ tb .gateways
+  pub eight : length (x .slots) ≡ 8
 
 -- ---- runs
 -- the time that a call brings, where it brings one

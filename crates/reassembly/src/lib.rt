@@ -12,6 +12,7 @@ pub mod part;
 pub mod slot;
 pub mod table;
 
+pub use part::InSlot;
 pub use part::Outcome;
 pub use slot::Key;
 pub use slot::Node;
@@ -24,5 +25,8 @@ pub use table::count_free;
 pub use table::count_held;
 pub use table::hand_over;
 pub use table::is_gateway;
+pub use table::is_short;
 pub use table::receive_part;
 pub use table::refuse;
+pub use table::take_at;
+pub use table::to_open;

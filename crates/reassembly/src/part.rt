@@ -53,7 +53,7 @@ fn units_of(n: usize) -> usize
 }
 
 // Whether a part of n bytes is one of a datagram of so many bytes: check 10.
-pub(crate) fn fits(size: u16, offset: Units, n: usize) -> bool
+pub fn fits(size: u16, offset: Units, n: usize) -> bool
     ensures { λ r. ⌜ r ≡ fitsIn size (offset .0) n ⌝ }
 {
     let total = size as usize;

@@ -5,13 +5,15 @@ ghost use mathlib.Core.Bool.{not, _&&_, _||_};
 ghost use Prim.Native.Nat.{_+_, _*_, _<_, _≤_};
 ghost use lib.ListN.{length, take, replicate};
 ghost use lib.Dec.{eqb, ltb, leb};
+ghost use Rattle.octets.specs.Read.{choose};
 ghost use Rattle.octets.specs.Refusal.{numberOf};
 ghost use Rattle.octets.specs.declared.refusal.Refusal.{Refusal};
+ghost use Rattle.reassembly.specs.declared.part.Outcome.{Outcome};
 ghost use Rattle.reassembly.specs.declared.table.Listed.{Listed};
 ghost use Rattle.reassembly.specs.Lists.{count, firstAt, those};
-ghost use Rattle.reassembly.specs.Slots.{sameNode, expire, freeSlot, present, isFree, gatesOf, isGate, held, free, idleOthers, opening};
+ghost use Rattle.reassembly.specs.Slots.{sameNode, opened, expired, expire, freeSlot, isKey, present, isFree, gatesOf, isGate, held, free, idleOthers, opening};
 ghost use Rattle.reassembly.specs.Parts.{partOf, place, offer, Placeable};
-ghost use Rattle.reassembly.specs.Table.{chunk, withSlots, step, partCall, wholeCall, refusedCall, Lands, Gives};
+ghost use Rattle.reassembly.specs.Table.{chunk, withSlots, step, takeAt, partCall, wholeCall, refusedCall, Lands, Gives};
 ghost use Rattle.reassembly.specs.Fresh.{seats, fresh, nodes, unfit, Begins};
 use super::part::InSlot;
 use super::part::Outcome;
@@ -88,6 +90,37 @@ impl Table {
         }
         x.last = time;
         x
+    }
+
+    // Whether a slot is 60,000 ms or more past its opening.
+    pub fn is_due(self, time: u64) -> bool
+        ensures { λ r. ⌜ r ≡ leb 1 (count (expired time) (self .slots)) ⌝ }
+    {
+        let mut i: usize = 0;
+        while i < 8 {
+            let live = self.slots[i].live;
+            let since = self.slots[i].since;
+            if is_expired(live, since, time) {
+                return true;
+            }
+            i = i + 1;
+        }
+        false
+    }
+
+    // The slot that is open under a key, or 8.
+    pub fn find(self, key: Key) -> usize
+        ensures { λ r. ⌜ r ≡ firstAt (isKey key) (self .slots) ⌝ }
+    {
+        let mut i: usize = 0;
+        while i < 8 {
+            let s = self.slots[i];
+            if s.has_key(key) {
+                return i;
+            }
+            i = i + 1;
+        }
+        8
     }
 
     fn of(seats: [Node; 4]) -> Table
@@ -173,7 +206,7 @@ fn has_unfit(seats: [Node; 4], size: usize) -> bool
 }
 
 // Whether too little was lent.
-fn is_short(mem: usize, out: usize) -> bool
+pub fn is_short(mem: usize, out: usize) -> bool
     ensures { λ r. ⌜ r ≡ (ltb mem 16384 || ltb out 2047) ⌝ }
 {
     if mem < 16384 {
@@ -280,7 +313,7 @@ fn count_idle_others(t: Table, g: Node) -> usize
 }
 
 // The slot that a gateway may open, or 8.
-fn to_open(t: Table, g: Node) -> usize
+pub fn to_open(t: Table, g: Node) -> usize
     ensures { λ r. ⌜ r ≡ opening g (gatesOf t) (t .slots) ⌝ }
 {
     let h = count_held(t, g);
@@ -331,6 +364,52 @@ fn place_at(
     let start = i * 2048;
     let end = start + 2048;
     place_part(s, &mut mem[start..end], offset, elided, part, out)
+}
+
+// A part for slot i, whose record is s, at a time at which s is not old: one under the slot's key is offered to it, any other
+// opens it. Refused, the slot as it was, where too little is lent, the part is none of its datagram, or there is no slot i.
+pub fn take_at(
+    s: Slot,
+    i: usize,
+    time: u64,
+    key: Key,
+    offset: Units,
+    elided: bool,
+    part: &[u8],
+    mem: &mut [u8],
+    out: &mut [u8],
+) -> InSlot
+    ensures { λ r. ⌜ Lands r i (now (mem .entry)) (now (mem .exit)) (now (out .entry)) (now (out .exit)) (takeAt s i time (partOf key (offset .0) elided (now (part .entry))) (now (mem .entry)) (now (out .entry))) ⌝ }
+{
+    if is_short(mem.len(), out.len()) {
+        return stays(s, Refusal::NoRoom);
+    }
+    if !fits(key.size, offset, part.len()) {
+        return stays(s, Refusal::BadPart);
+    }
+    if 8 <= i {
+        return stays(s, Refusal::NoSlot);
+    }
+    let z = slot_for(s, key, time);
+    offer_at(z, i, mem, offset, elided, part, out)
+}
+
+// The record that a part finds: the slot's under its own key, or that of the slot as it is opened.
+fn slot_for(s: Slot, key: Key, time: u64) -> Slot
+    ensures { λ r. ⌜ r ≡ choose (isKey key s) s (opened key time) ⌝ }
+{
+    if s.has_key(key) {
+        return s;
+    }
+    Slot::opened(key, time)
+}
+
+// A refusal that leaves the slot as it was.
+fn stays(slot: Slot, e: Refusal) -> InSlot
+    ensures { λ r. ⌜ r ≡ record { outcome = Outcome.Refused e; slot = slot } ⌝ }
+{
+    let outcome = Outcome::Refused(e);
+    InSlot { outcome, slot }
 }
 
 // A call whose frame is refused.

@@ -15,7 +15,7 @@ use Rattle.incoming.specs.declared.arrival.Arrival.{Arrival}
 use Rattle.incoming.proofs.Names.{Headed, part-header}
 use Rattle.reassembly.specs.Slots.{nodeOf, present, owner, isGate}
 use Rattle.reassembly.specs.Parts.{Part, Reply}
-use Rattle.reassembly.specs.Table.{Call, short, other, part, lentCall, after}
+use Rattle.reassembly.specs.Table.{Call, short, other, part, lentCall, At, after}
 use Rattle.reassembly.specs.declared.slot.Node.{Node}
 use Rattle.reassembly.specs.declared.slot.Key.{Key}
 use Rattle.reassembly.proofs.Tests.{by-test}
@@ -103,6 +103,19 @@ carries-after n t ctx s (refused r) = refl
 frame-after : (n : ℕ) (gs : List Node) (ctx : List ℕ) (t : ℕ) (s : List ℕ) → after n (frameCall gs ctx t s) ≡ t
 unfolding frameCall
 frame-after n gs ctx t s = carries-after n t ctx s (admitted gs s)
+
+pub frame-at : (gs : List Node) (ctx : List ℕ) (t : ℕ) (s : List ℕ) → At (frameCall gs ctx t s) t
+unfolding frameCall
+frame-at gs ctx t s = go (admitted gs s)
+  where
+    bring : (a : Arrival) (r : Answer Brought) → At (brings t a r) t
+    bring a (is (datagram d)) = refl
+    bring a (is (Incoming.part size tag v bs el)) = refl
+    bring a (refused r) = refl
+
+    go : (r : Answer Arrival) → At (carries t ctx s r) t
+    go (is a) = bring a (payload ctx a s)
+    go (refused r) = refl
 
 -- ---- with the lent memory m and the output o
 

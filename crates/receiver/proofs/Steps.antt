@@ -1,29 +1,39 @@
 -- What a frame is to the table, answer by answer.
-use Prim.Native.Nat.{ℕ, _-_, _≤_}
-use native.Mathlib.Omega.{arith}
+use Prim.Native.Nat.{ℕ, _-_, _≤_, min}
+use native.Mathlib.Omega.{arith, min-cases}
 use native.Mathlib.Nat.{sub-zero}
-use mathlib.Core.List.{List}
+use mathlib.Core.List.{List, _++_}
 use mathlib.Core.Bool.{Bool, true, false}
-use mathlib.Core.Path.{_≡_, refl, sym, ap, ap₂, _∙_}
+use mathlib.Core.Path.{_≡_, refl, sym, ap, ap₂, subst, _∙_}
 use lib.ListN.{length, take, drop, length-drop}
-use lib.Seq.{take-all}
+use lib.Seq.{take-all, take-at}
 use borrow.Author.Tests.{le-leb}
 use Rattle.octets.specs.Read.{Answer, is, refused, andThen, choose}
 use Rattle.octets.specs.Refusal.{numberOf}
+use Rattle.octets.specs.Write.{put}
+use Rattle.octets.proofs.Spans.{not-refused}
+use Rattle.octets.proofs.Puts.{put-front}
 use Rattle.octets.specs.declared.refusal.Refusal.{Refusal}
 use Rattle.octets.specs.declared.refusal.Refusal.the-variants.{NotGateway, NoAddress}
 use Rattle.incoming.specs.Incoming.{ofArrival, arrival, Brought, payload, payloadIn, Brings}
 use Rattle.incoming.specs.declared.arrival.Arrival.{Arrival}
 use Rattle.incoming.specs.declared.arrival.ArrivalAnswer.{ArrivalAnswer}
 use Rattle.incoming.specs.declared.payload.Payload.{Payload}
-use Rattle.incoming.proofs.Steps.{on-arrival, no-arrival}
+use Rattle.incoming.proofs.Steps.{on-arrival, no-arrival, arrival-short}
 use Rattle.sixlowpan.specs.declared.frag.Units.{Units}
 use Rattle.reassembly.specs.Slots.{nodeOf, present, isGate}
+use Rattle.reassembly.specs.Parts as Parts
 use Rattle.reassembly.specs.Parts.{partOf}
-use Rattle.reassembly.specs.Table.{lentCall, partCall, wholeCall, refusedCall}
+use Rattle.reassembly.specs.Table as Table
+use Rattle.reassembly.specs.Table.{Call, other, step, lentCall, Gives}
+use Rattle.reassembly.specs.declared.table.Table as T
+use Rattle.reassembly.specs.declared.table.Received.{Received}
 use Rattle.reassembly.specs.declared.slot.Node.{Node}
 use Rattle.reassembly.specs.declared.slot.Key.{Key}
-use Rattle.receiver.specs.Receive.{keyOf, welcome, admitted, brings, carries, frameCall, callOf}
+use Rattle.receiver.specs.Receive.{keyOf, welcome, admitted, brings, carries, frameCall}
+use Rattle.receiver.specs.Carried.{callAs, carriedCall}
+use Rattle.receiver.specs.declared.What.{What}
+use Rattle.receiver.specs.declared.Carried.{Carried}
 
 -- ---- who sends it to whom
 module _ (gs : List Node) (s : List ℕ) (y : ArrivalAnswer) (p : ofArrival y ≡ arrival s) where
@@ -46,39 +56,61 @@ module _ (gs : List Node) (s : List ℕ) (y : ArrivalAnswer) (p : ofArrival y �
   no-sender e q = no-arrival (arrival s) (λ x. welcome gs x) p q
 
 -- ---- what it brings
-module _ (m o : List ℕ) (gs : List Node) (ctx : List ℕ) (t : ℕ) (s : List ℕ) (y : ArrivalAnswer) (p : ofArrival y ≡ admitted gs s) where
-  pub call-none : (e : Refusal) → y ≡ ArrivalAnswer.Refused e → callOf m o gs ctx t s ≡ refusedCall m o t (numberOf e)
-  unfolding callOf frameCall
-  call-none e q = ap (λ z. lentCall m o (carries t ctx s z)) (sym p ∙ ap ofArrival q)
+admitted-short : (gs : List Node) (s : List ℕ) (a : Arrival) → admitted gs s ≡ is a → length s ≤ 127
+unfolding admitted
+admitted-short gs s a e = go (arrival s) refl e
+  where
+    go : (x : Answer Arrival) → arrival s ≡ x → andThen x (λ b. welcome gs b) ≡ is a → length s ≤ 127
+    go (is b) q r = arrival-short s b q
+    go (refused n) q r = not-refused _ n r
 
-  module _ (a : Arrival) (q : y ≡ ArrivalAnswer.Is a) (r : Payload) (room l : List ℕ) (big : 175 ≤ length room) (b : Brings r room l s (payloadIn room ctx a s)) where
-    call-brings : callOf m o gs ctx t s ≡ lentCall m o (brings t a (payloadIn room ctx a s))
-    unfolding callOf frameCall payloadIn
-    call-brings = ap (λ z. lentCall m o (carries t ctx s z)) (sym p ∙ ap ofArrival q) ∙ rw (le-leb 175 (length room) big) refl
+module _ (gs : List Node) (ctx s : List ℕ) (y : ArrivalAnswer) (p : ofArrival y ≡ admitted gs s) where
+  pub frame-none : (e : Refusal) → y ≡ ArrivalAnswer.Refused e → (t : ℕ) → other t (Parts.refused (numberOf e)) ≡ frameCall gs ctx t s
+  unfolding frameCall
+  frame-none e q t = ap (λ z. carries t ctx s z) (sym (ap ofArrival q) ∙ p)
 
-    pub call-whole : (n : ℕ) → r ≡ Payload.Whole n → callOf m o gs ctx t s ≡ wholeCall m o t (take (n - 0) l)
-    call-whole n e = call-brings ∙ ap (λ z. lentCall m o (brings t a z)) (sym (rw e at (b .answer))) ∙ ap (λ z. wholeCall m o t (take z l)) (sym (sub-zero n))
+  module _ (a : Arrival) (q : y ≡ ArrivalAnswer.Is a) (r : Payload) (room l : List ℕ) (big : 175 ≤ length room) (b : Brings r room l s (payloadIn room ctx a s)) (t : ℕ) where
+    frame-brings : {x : Answer Brought} → x ≡ payloadIn room ctx a s → brings t a x ≡ frameCall gs ctx t s
+    unfolding frameCall payloadIn
+    frame-brings e = ap (λ z. brings t a z) e ∙ rw (le-leb 175 (length room) big) (ap (λ z. carries t ctx s z) (sym (ap ofArrival q) ∙ p))
+
+    pub frame-whole : (n : ℕ) → r ≡ Payload.Whole n → other t (Parts.out (take n l)) ≡ frameCall gs ctx t s
+    frame-whole n e = frame-brings (rw e at (b .answer))
+
+    pub frame-refused : (e : Refusal) → r ≡ Payload.Refused e → other t (Parts.refused (numberOf e)) ≡ frameCall gs ctx t s
+    frame-refused x e = frame-brings (rw e at (b .answer))
 
     -- a part under the key k
     module _ (size tag : ℕ) (k : Key) (key : k ≡ keyOf a size tag) where
-      pub call-first : (n : ℕ) (el : Bool) → r ≡ Payload.First size tag n el → callOf m o gs ctx t s ≡ partCall m o t (partOf k 0 el (take (n - 0) l))
-      call-first n el e = call-brings ∙ ap (λ z. lentCall m o (brings t a z)) (sym (rw e at (b .answer))) ∙ ap₂ (λ x z. partCall m o t (partOf x 0 el (take z l))) (sym key) (sym (sub-zero n))
+      pub frame-first : (n : ℕ) (el : Bool) → r ≡ Payload.First size tag n el → Table.part t (partOf k 0 el (take n l)) ≡ frameCall gs ctx t s
+      frame-first n el e = ap (λ z. Table.part t (partOf z 0 el (take n l))) key ∙ frame-brings (rw e at (b .answer))
 
-      pub call-later : (u : Units) (from : ℕ) → r ≡ Payload.Later size tag u from → callOf m o gs ctx t s ≡ partCall m o t (partOf k (u .0) false (take (length s - from) (drop from s)))
-      call-later u from e =
-          call-brings ∙ ap (λ z. lentCall m o (brings t a z)) (sym (rw e at (b .answer)))
-          ∙ ap₂ (λ x z. partCall m o t (partOf x (u .0) false z)) (sym key) (sym (take-all (length s - from) (drop from s) (omega (arith, length-drop from s))))
-
-    pub call-refused : (e : Refusal) → r ≡ Payload.Refused e → callOf m o gs ctx t s ≡ refusedCall m o t (numberOf e)
-    call-refused x e = call-brings ∙ ap (λ z. lentCall m o (brings t a z)) (sym (rw e at (b .answer)))
+      -- its bytes stand at the start of l′
+      pub frame-later : (u : Units) (from : ℕ) → r ≡ Payload.Later size tag u from → 127 ≤ length l → (l′ : List ℕ) → l′ ≡ put 0 (take (length s - from) (drop from s)) l
+          → Table.part t (partOf k (u .0) false (take (length s - from) l′)) ≡ frameCall gs ctx t s
+      frame-later u from e room-for l′ w =
+          let n = length-drop from s in
+          let short = admitted-short gs s a (sym p ∙ ap ofArrival q) in
+          let all = take-all (length s - from) (drop from s) (omega (arith, n)) in
+          let f : l′ ≡ drop from s ++ drop (length (drop from s)) l = w ∙ ap (λ z. put 0 z l) all ∙ put-front (drop from s) l (omega (arith, n, short)) in
+          let g : take (length s - from) l′ ≡ drop from s = ap (take (length s - from)) f ∙ take-at (drop from s) (drop (length (drop from s)) l) (length s - from) n in
+          ap₂ (λ x z. Table.part t (partOf x (u .0) false z)) key g ∙ frame-brings (rw e at (b .answer))
 
 -- ---- what its payload's answer points at
 module _ (r : Payload) (room l s : List ℕ) (b : Answer Brought) (h : Brings r room l s b) where
-  pub whole-within : (n : ℕ) → r ≡ Payload.Whole n → n ≤ length l
-  whole-within n e = rw e at (h .within)
-
-  pub first-within : (size tag n : ℕ) (el : Bool) → r ≡ Payload.First size tag n el → n ≤ length l
-  first-within size tag n el e = rw e at (h .within)
-
   pub later-within : (size tag : ℕ) (u : Units) (from : ℕ) → r ≡ Payload.Later size tag u from → from ≤ length s
   later-within size tag u from e = (rw e at (h .within)) .0
+
+-- ---- by value
+-- no more of the bytes than there are
+pub take-min : (n k : ℕ) (l : List ℕ) → length l ≡ k → take (min n k - 0) l ≡ take n l
+take-min n k l e = min-cases n k (take (min n k - 0) l ≡ take n l)
+    (λ p q. ap (λ z. take z l) (sub-zero (min n k) ∙ q))
+    (λ p q. ap (λ z. take z l) (sub-zero (min n k) ∙ q) ∙ take-all k l (omega arith) ∙ sym (take-all n l (omega arith)))
+
+pub call-as : (c : Carried) (w : What) → c .what ≡ w → (t : ℕ) → callAs w t c ≡ carriedCall t c
+call-as c w q t = ap (λ z. callAs z t c) (sym q)
+
+-- of equal calls
+pub gives-as : (tb : T.Table) (m o : List ℕ) {x y : Call} → x ≡ y → {r : Received} {m′ o′ : List ℕ} → Gives r m′ o o′ (step (record { table = tb; mem = m }) (lentCall m o x)) → Gives r m′ o o′ (step (record { table = tb; mem = m }) (lentCall m o y))
+gives-as tb m o e {r} {m′} {o′} g = subst (λ z. Gives r m′ o o′ (step (record { table = tb; mem = m }) (lentCall m o z))) e g

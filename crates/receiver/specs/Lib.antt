@@ -1,2 +1,3 @@
 pub mod Receive
+pub mod Carried
 pub mod Names

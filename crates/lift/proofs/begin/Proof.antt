@@ -1,4 +1,3 @@
-use mathlib.Core.Path.{_∙_}
 use Rattle.lift.proofs.Lists.{how-many, four-is, begun-list, refused-list}
 use borrow.Author.Needs.{needs}
 use Rattle.lift.proofs.begin.Statement.{statement}
@@ -31,19 +30,18 @@ enum-known-listed c = search needs
 number-requires : tie.Need-number-requires
 number-requires c κs = search needs
 
-cast-t19 : tie.Need-cast-t19
-cast-t19 c = search needs
+cast-t18 : tie.Need-cast-t18
+cast-t18 c = search needs
 
 returns : tie.Need-returns
 returns c =
-    let a = c .before .before .before .before .before .before .before .before .before .args in
-    begun-list (a .gateways .now) _ _ (four-is _ _ _ _ _ (c .before .before .before .before .before .before .before .address-at .ensures) (c .before .before .before .before .before .before .address-at2 .ensures) (c .before .before .before .before .before .address-at3 .ensures) (c .before .before .before .before .address-at4 .ensures)) (how-many (a .gateways .now)) (a .table) _ _ (c .before .before .before .new .ensures) (c .enum-told .given .1)
+    let l = c .before .before .before .before .before .before .before .before .before .args .gateways .now in
+    begun-list l _ _ (four-is _ _ _ _ _ (c .before .before .before .before .before .before .before .address-at .ensures) (c .before .before .before .before .before .before .address-at2 .ensures) (c .before .before .before .before .before .address-at3 .ensures) (c .before .before .before .before .address-at4 .ensures)) (how-many l) _ _ (c .before .before .before .new .ensures) (c .enum-told .given .1)
 
 returns-2 : tie.Need-returns-2
 returns-2 c =
-    let a = c .before .before .before .before .before .before .before .before .before .before .before .args in
-    let h = refused-list (a .gateways .now) _ _ (four-is _ _ _ _ _ (c .before .before .before .before .before .before .before .before .before .address-at .ensures) (c .before .before .before .before .before .before .before .before .address-at2 .ensures) (c .before .before .before .before .before .before .before .address-at3 .ensures) (c .before .before .before .before .before .before .address-at4 .ensures)) (how-many (a .gateways .now)) (a .table) _ _ (c .before .before .before .before .before .new .ensures) _ (c .before .before .listed .given .1) in
-    (c .number .ensures ∙ h .0, h .1)
+    let l = c .before .before .before .before .before .before .before .before .before .before .before .args .gateways .now in
+    refused-list l _ _ (four-is _ _ _ _ _ (c .before .before .before .before .before .before .before .before .before .address-at .ensures) (c .before .before .before .before .before .before .before .before .address-at2 .ensures) (c .before .before .before .before .before .before .before .address-at3 .ensures) (c .before .before .before .before .before .before .address-at4 .ensures)) (how-many l) _ _ (c .before .before .before .before .before .new .ensures) _ (c .before .before .listed .given .1) _ (c .number .ensures)
 
 pub begin-spec : {M : Type 1} → statement M
 begin-spec =
@@ -58,6 +56,6 @@ begin-spec =
     enum-told
     enum-known-listed
     number-requires
-    cast-t19
+    cast-t18
     returns
     returns-2)

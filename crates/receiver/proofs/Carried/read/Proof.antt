@@ -1,0 +1,123 @@
+use native.Mathlib.Omega.{arith}
+use Rattle.reassembly.specs.Lists.{those}
+use Rattle.reassembly.specs.Slots.{present}
+use Rattle.receiver.proofs.Steps.{frame-none, frame-whole, frame-first, frame-later, frame-refused, later-within}
+use borrow.Author.Needs.{needs}
+use Rattle.receiver.proofs.Carried.read.Statement.{statement}
+use Rattle.receiver.proofs.Carried.read.Tie as tie
+
+admit-requires : tie.Need-admit-requires
+admit-requires c κs = search needs
+
+enum-known-a : tie.Need-enum-known-a
+enum-known-a c = search needs
+
+slice-aggregate-read : tie.Need-slice-aggregate-read
+slice-aggregate-read c = search needs
+
+read-requires : tie.Need-read-requires
+read-requires c κs = search needs
+
+enum-known-n : tie.Need-enum-known-n
+enum-known-n c = search needs
+
+whole-requires : tie.Need-whole-requires
+whole-requires c κs = search needs
+
+enum-known-size : tie.Need-enum-known-size
+enum-known-size c = search needs
+
+key-of-requires : tie.Need-key-of-requires
+key-of-requires c κs = search needs
+
+part-requires : tie.Need-part-requires
+part-requires c κs = search needs
+
+enum-known-size-2 : tie.Need-enum-known-size-2
+enum-known-size-2 c = search needs
+
+sub-n : tie.Need-sub-n
+sub-n c = later-within _ _ _ _ _ (c .before .before .before .before .read .ensures) _ _ _ _ (c .before .size2 .given .1)
+
+slice-aggregate-put-part : tie.Need-slice-aggregate-put-part
+slice-aggregate-put-part c = search needs
+
+put-part-requires : tie.Need-put-part-requires
+put-part-requires c κs = search needs
+
+key-of-requires-2 : tie.Need-key-of-requires-2
+key-of-requires-2 c κs = search needs
+
+part-requires-2 : tie.Need-part-requires-2
+part-requires-2 c κs = search needs
+
+enum-known-e : tie.Need-enum-known-e
+enum-known-e c = search needs
+
+refused-requires : tie.Need-refused-requires
+refused-requires c κs = search needs
+
+enum-known-e-2 : tie.Need-enum-known-e-2
+enum-known-e-2 c = search needs
+
+refused-requires-2 : tie.Need-refused-requires-2
+refused-requires-2 c κs = search needs
+
+returns : tie.Need-returns
+returns c =
+    let a = c .before .before .before .before .before .before .before .before .before .before .before .before .before .args in
+    let gs = those present (a .gateways) in
+    record { call = λ t. rw (c .whole .ensures) (frame-whole gs (a .contexts .now) (a .frame .now) _ (c .before .before .before .before .before .before .before .before .before .before .admit .ensures) _ (c .before .before .before .before .before .before .before .before .a .given .1) _ _ _ (omega arith) (c .before .before .before .before .before .read .ensures) t _ (c .before .before .n .given .1)) }
+
+returns-2 : tie.Need-returns-2
+returns-2 c =
+    let a = c .before .before .before .before .before .before .before .before .before .before .before .before .before .before .args in
+    let gs = those present (a .gateways) in
+    record { call = λ t. rw (c .part .ensures) (frame-first gs (a .contexts .now) (a .frame .now) _ (c .before .before .before .before .before .before .before .before .before .before .before .admit .ensures) _ (c .before .before .before .before .before .before .before .before .before .a .given .1) _ _ _ (omega arith) (c .before .before .before .before .before .before .read .ensures) t _ _ _ (c .before .key-of .ensures) _ _ (c .before .before .before .size .given .1)) }
+
+returns-3 : tie.Need-returns-3
+returns-3 c =
+    let a = c .before .before .before .before .before .before .before .before .before .before .before .before .before .before .before .before .before .args in
+    let gs = those present (a .gateways) in
+    record { call = λ t. rw (c .part2 .ensures) (frame-later gs (a .contexts .now) (a .frame .now) _ (c .before .before .before .before .before .before .before .before .before .before .before .before .before .before .admit .ensures) _ (c .before .before .before .before .before .before .before .before .before .before .before .before .a .given .1) _ _ _ (omega arith) (c .before .before .before .before .before .before .before .before .before .read .ensures) t _ _ _ (c .before .key-of2 .ensures) _ _ (c .before .before .before .before .before .before .size2 .given .1) (omega arith) _ (c .before .before .before .put-part .ensures)) }
+
+returns-4 : tie.Need-returns-4
+returns-4 c =
+    let a = c .before .before .before .before .before .before .before .before .before .before .before .before .before .args in
+    let gs = those present (a .gateways) in
+    record { call = λ t. rw (c .refused .ensures) (frame-refused gs (a .contexts .now) (a .frame .now) _ (c .before .before .before .before .before .before .before .before .before .before .admit .ensures) _ (c .before .before .before .before .before .before .before .before .a .given .1) _ _ _ (omega arith) (c .before .before .before .before .before .read .ensures) t _ (c .before .before .e .given .1)) }
+
+returns-5 : tie.Need-returns-5
+returns-5 c =
+    let a = c .before .before .before .before .before .before .before .args in
+    let gs = those present (a .gateways) in
+    record { call = λ t. rw (c .refused2 .ensures) (frame-none gs (a .contexts .now) (a .frame .now) _ (c .before .before .before .before .admit .ensures) _ (c .before .before .e2 .given .1) t) }
+
+pub read-spec : {M : Type 1} → statement M
+read-spec =
+    tie.close
+    (tie.spec
+    admit-requires
+    enum-known-a
+    slice-aggregate-read
+    read-requires
+    enum-known-n
+    whole-requires
+    enum-known-size
+    key-of-requires
+    part-requires
+    enum-known-size-2
+    sub-n
+    slice-aggregate-put-part
+    put-part-requires
+    key-of-requires-2
+    part-requires-2
+    enum-known-e
+    refused-requires
+    enum-known-e-2
+    refused-requires-2
+    returns
+    returns-2
+    returns-3
+    returns-4
+    returns-5)

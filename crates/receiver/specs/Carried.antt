@@ -1,0 +1,49 @@
+-- What a frame carries, by value: the call that it makes at a time.
+use Prim.Native.Nat.{ℕ}
+use mathlib.Core.Path.{_≡_}
+use mathlib.Core.Bool.{Bool, true, false}
+use mathlib.Core.List.{List}
+use lib.ListN.{length, take}
+use Rattle.octets.specs.Refusal.{numberOf}
+use Rattle.octets.specs.declared.refusal.Refusal.{Refusal}
+use Rattle.sixlowpan.specs.declared.frag.Units.{Units}
+use Rattle.reassembly.specs.Slots.{noKey}
+use Rattle.reassembly.specs.Parts as Parts
+use Rattle.reassembly.specs.Parts.{Part, partOf}
+use Rattle.reassembly.specs.Table as Table
+use Rattle.reassembly.specs.Table.{Call, other}
+use Rattle.reassembly.specs.declared.slot.Node.{Node}
+use Rattle.reassembly.specs.declared.slot.Key.{Key}
+use Rattle.receiver.specs.Receive.{frameCall}
+use Rattle.receiver.specs.declared.What.{What}
+use Rattle.receiver.specs.declared.Carried.{Carried}
+
+-- ---- made of their parts
+abbrev pub nothing : Refusal → List ℕ → Carried
+nothing e bs = record { what = What.Refused e; key = noKey; offset = record { 0 = 0 }; elided = false; len = 0; bytes = bs }
+
+abbrev pub whole : ℕ → List ℕ → Carried
+whole n bs = record { what = What.Whole; key = noKey; offset = record { 0 = 0 }; elided = false; len = n; bytes = bs }
+
+abbrev pub part : Key → Units → Bool → ℕ → List ℕ → Carried
+part k u e n bs = record { what = What.Part; key = k; offset = u; elided = e; len = n; bytes = bs }
+
+-- ---- what it says
+abbrev pub bytesOf : Carried → List ℕ
+bytesOf c = take (c .len) (c .bytes)
+
+abbrev pub partIn : Carried → Part
+partIn c = partOf (c .key) (c .offset .0) (c .elided) (bytesOf c)
+
+abbrev pub callAs : What → ℕ → Carried → Call
+callAs What.Part t c = Table.part t (partIn c)
+callAs What.Whole t c = other t (Parts.out (bytesOf c))
+callAs (What.Refused e) t c = other t (Parts.refused (numberOf e))
+
+-- the call that it makes at the time t
+abbrev pub carriedCall : ℕ → Carried → Call
+carriedCall t c = callAs (c .what) t c
+
+-- c is what the frame s carries to a table of the gateways gs, with the contexts ctx
+pub record Carries (c : Carried) (gs : List Node) (ctx s : List ℕ) : Type 0 where
+  pub call : (t : ℕ) → carriedCall t c ≡ frameCall gs ctx t s
