@@ -4,7 +4,8 @@
 //   frames check FILE             every workload gets the answers that stand in the file, and all four leave the same bytes
 //   frames stack                  the same as `drawn`, and how deep the stack goes
 //   frames drawn                  the same answers, memory and output after every call of standard input (`bench/sent drawn`)
-//   frames time FILE REPEATS      nanoseconds a call, best (median): each so many times in turn, 20,000 calls at a time
+//   frames time FILE REPEATS      nanoseconds a call, best (median): each so many times in turn, 20,000 calls at a time, and frames a second
+//   frames grow FILE REPEATS HEAD the same without frames a second, the first column headed HEAD
 //   frames count FILE KIND ROW LAPS  one kind alone over a workload, for callgrind; prints the calls of a lap
 //
 // A difference ends with status 1.
@@ -302,10 +303,10 @@ static uint64_t run_kind(size_t k) {
   return kinds[k]->run(sides[k].table, &timed_run, &l);
 }
 
-static void print_times(size_t repeats) {
+static void print_times(size_t repeats, const char *head) {
   static struct times t[LOADS][KINDS];
   static struct spread s[LOADS][QUOTIENTS];
-  printf("\n| frames | the library, ns | ours in a loop | plain C | packed C | library / plain | loop / plain | library / packed | loop / packed |\n|---|---|---|---|---|---|---|---|---|\n");
+  printf("\n| %s | the library, ns | ours in a loop | plain C | packed C | library / plain | loop / plain | library / packed | loop / packed |\n|---|---|---|---|---|---|---|---|---|\n", head == NULL ? "frames" : head);
   for (size_t i = 0; i < load_count; i++) {
     timed_run = run_of(&loads[i].gateways, &loads[i].first, &loads[i].lap, 20000 / loads[i].lap.count);
     clear();
@@ -316,6 +317,7 @@ static void print_times(size_t repeats) {
     printf("|\n");
     fflush(stdout);
   }
+  if (head != NULL) return;
   printf("\n| frames a second, millions: best (median) | the library | ours in a loop | plain C | packed C |\n|---|---|---|---|---|\n");
   for (size_t i = 0; i < load_count; i++) {
     printf("| %s ", loads[i].name);
@@ -342,10 +344,11 @@ int main(int argc, char **argv) {
   if (argc == 3 && strcmp(what, "check") == 0) check_loads();
   else if (argc == 2 && strcmp(what, "drawn") == 0) check_drawn(false);
   else if (argc == 2 && strcmp(what, "stack") == 0) check_drawn(true), print_depths();
-  else if (argc == 4 && strcmp(what, "time") == 0 && atoi(argv[3]) >= 1 && atoi(argv[3]) <= MOST_REPEATS) print_times((size_t)atoi(argv[3]));
+  else if (argc == 4 && strcmp(what, "time") == 0 && atoi(argv[3]) >= 1 && atoi(argv[3]) <= MOST_REPEATS) print_times((size_t)atoi(argv[3]), NULL);
+  else if (argc == 5 && strcmp(what, "grow") == 0 && atoi(argv[3]) >= 1 && atoi(argv[3]) <= MOST_REPEATS) print_times((size_t)atoi(argv[3]), argv[4]);
   else if (argc == 6 && strcmp(what, "count") == 0) count(argv[3], (size_t)atoi(argv[4]), (size_t)atoi(argv[5]));
   else {
-    fprintf(stderr, "usage: frames check FILE | drawn | stack | time FILE REPEATS | count FILE KIND ROW LAPS\n");
+    fprintf(stderr, "usage: frames check FILE | drawn | stack | time FILE REPEATS | grow FILE REPEATS HEAD | count FILE KIND ROW LAPS\n");
     return 2;
   }
   return 0;
