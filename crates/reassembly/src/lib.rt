@@ -2,7 +2,8 @@
 //
 // - `slot`: addresses as two numbers, keys, and a slot's record. `part`: a part offered to one slot and its 2,048 bytes.
 // - `table`: eight slots, the last time and at most four gateways, by value. `Table::new` takes the gateway list; a call
-//   brings a part (`receive_part`), a whole datagram (`hand_over`) or nothing (`refuse`).
+//   brings a part (`receive_part`), a whole datagram (`hand_over`) or nothing (`refuse`). For a table that is kept elsewhere and
+//   changed slot by slot: `is_due`, `aged`, `find`, `to_open`, and a part to one slot, `take_at`.
 //
 // The answer, the table, the lent memory and the output are, on every input, those of specs/Table.antt's `step`. proofs/
 // shows of every table that comes from calls that no gateway holds over three slots, that the free slots suffice for the

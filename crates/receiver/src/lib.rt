@@ -1,11 +1,10 @@
 // The receiver: one call takes a time, a frame, contexts, the lent memory and an output.
 //
 // The answer, the table, the lent memory and the output of `receive` are, on every input, those of the slot table's `step`
-// on what specs/Receive.antt says the frame is. A refusal writes no lent byte. `carried` is what a frame carries to a table,
-// in full and by value, and `settle` a call with it.
+// on what specs/Receive.antt says the frame is. A refusal writes no lent byte. `Carried` is what a frame carries to a table,
+// in full and by value (specs/Carried.antt), and `settle` a call with it.
 ghost use mathlib.Core.Path.{_≡_};
 ghost use Prim.Native.Nat.{_≤_, min};
-ghost use lib.ListN.{take};
 ghost use Rattle.incoming.specs.Incoming.{ofArrival};
 ghost use Rattle.reassembly.specs.Lists.{those};
 ghost use Rattle.reassembly.specs.Slots.{noKey, present, gatesOf};
