@@ -1,14 +1,13 @@
 -- What a frame carries, as the covered functions answer it: the first bytes of the array are the datagram's or the part's.
 use Prim.Native.Nat.{ℕ, _+_, min}
-use mathlib.Core.Path.{_≡_, refl, sym, ap, ap₂, subst, _∙_}
-use mathlib.Core.Bool.{Bool}
+use mathlib.Core.Path.{_≡_, refl, sym, ap, subst, _∙_}
 use mathlib.Core.List.{List}
 use lib.ListN.{length, take, drop, length-take}
 use native.Mathlib.Nat.{sub-zero}
 use Rattle.octets.specs.Refusal.{numberOf}
 use Rattle.octets.specs.declared.refusal.Refusal.{Refusal}
 use Rattle.octets.specs.Write.{put}
-use Rattle.reassembly.specs.Parts.{partOf, ofOutcome, fitsIn, refused}
+use Rattle.reassembly.specs.Parts.{partOf, ofOutcome, fitsIn}
 use Rattle.reassembly.specs.Table.{takeAt, Lands}
 use Rattle.reassembly.specs.declared.slot.Slot.{Slot}
 use Rattle.reassembly.specs.declared.part.InSlot.{InSlot}
@@ -18,7 +17,6 @@ use Rattle.receiver.specs.declared.Carried.{Carried}
 use Rattle.receiver.proofs.Steps.{take-min}
 use Rattle.lift.specs.Face.{packed}
 use Rattle.lift.specs.InPlace.{takenAs, isTaken, toldAs, atOnce, Told, PutAt}
-use Rattle.lift.specs.declared.Put.{Put}
 
 module _ (c : Carried) where
   pub taken-as : (w : What) → c .what ≡ w → takenAs w c ≡ isTaken c

@@ -1,22 +1,19 @@
 -- The turns of a call in place are the slot table's `step`.
 use Prim.Native.Nat.{ℕ, _≤_, _<_}
 use native.Mathlib.Omega.{arith}
-use mathlib.Core.Path.{_≡_, refl, sym, ap, subst, _∙_}
+use mathlib.Core.Path.{_≡_, refl, sym, ap, _∙_}
 use mathlib.Core.Logic.{_⊎_, inl, inr, ⊎-elim}
-use mathlib.Core.Bool.{Bool, true, false, true≢false, _||_}
+use mathlib.Core.Bool.{true, false, true≢false, _||_}
 use mathlib.Core.List.{List}
 use lib.ListN.{length, getD, set}
 use lib.Dec.{eqb, ltb, leb}
 use borrow.Author.Tests.{ltb-true, ltb-false, le-ltb, leb-false, eqb-true, eqb-false}
-use Rattle.octets.specs.Refusal.{numberOf}
-use Rattle.octets.specs.declared.refusal.Refusal.{Refusal}
 use Rattle.reassembly.specs.Lists.{count, firstAt, those}
 use Rattle.reassembly.specs.Slots.{owner, present, isKey, expired, expire, gatesOf, isGate, opening}
 use Rattle.reassembly.specs.Parts as Parts
-use Rattle.reassembly.specs.Parts.{Reply, out, refused, told, ofOutcome, fits}
-use Rattle.reassembly.specs.Table.{Call, State, Result, other, part, withSlots, slotsAt, pass, land, chunk, takeAt, step, lentCall, Gives, Aged}
+use Rattle.reassembly.specs.Parts.{Reply, refused, ofOutcome, fits}
+use Rattle.reassembly.specs.Table.{State, Result, other, part, withSlots, slotsAt, pass, land, takeAt, step, lentCall, Gives, Aged}
 use Rattle.reassembly.specs.declared.slot.Slot.{Slot}
-use Rattle.reassembly.specs.declared.part.Outcome.{Outcome}
 use Rattle.reassembly.specs.declared.table.Table.{Table}
 use Rattle.reassembly.specs.declared.table.Received.{Received}
 use Rattle.reassembly.proofs.Tests.{by-test, not-true-false}
@@ -25,7 +22,7 @@ use Rattle.reassembly.proofs.Gateways.{length-expire}
 use Rattle.reassembly.proofs.Answers.{none-old, gives-7, gives-8, others, table-is, table-with, step-10, step-offer, step-open, step-12}
 use Rattle.reassembly.proofs.AtSlot.{take-own, take-other}
 use Rattle.receiver.specs.Receive.{frameCall, callOf}
-use Rattle.receiver.specs.Carried.{bytesOf, partIn, callAs, carriedCall, Carries}
+use Rattle.receiver.specs.Carried.{partIn, callAs, carriedCall, Carries}
 use Rattle.receiver.specs.declared.What.{What}
 use Rattle.receiver.specs.declared.Carried.{Carried}
 use Rattle.receiver.proofs.Names.{frame-part, frame-at}

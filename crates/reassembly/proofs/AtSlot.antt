@@ -1,10 +1,9 @@
 -- A part for one slot, answer by answer.
 use Prim.Native.Nat.{ℕ, zero, suc, _+_, _*_, _≤_, _<_}
-use native.Mathlib.Omega.{arith}
 use native.Mathlib.Nat.{le-of-suc-le-suc}
 use native.Mathlib.Numerals.{add-one}
 use mathlib.Core.Path.{_≡_, refl, sym, ap, subst, _∙_}
-use mathlib.Core.Bool.{Bool, true, false, _||_}
+use mathlib.Core.Bool.{true, false, _||_}
 use mathlib.Core.List.{List}
 use lib.ListN.{length, getD, set, take, drop, drop-of-length-le}
 use lib.Seq.{set-getD, drop-cons}
@@ -16,7 +15,7 @@ use Rattle.octets.specs.Refusal.{numberOf}
 use Rattle.octets.specs.declared.refusal.Refusal.{Refusal}
 use Rattle.reassembly.specs.Slots.{isKey, opened}
 use Rattle.marks.proofs.Ranges.{none-marked}
-use Rattle.reassembly.specs.Parts.{Part, partOf, fits, spans, repeatsIn, repeats, Put, place, offer}
+use Rattle.reassembly.specs.Parts.{Part, partOf, fits, spans, repeatsIn, repeats, place, offer}
 use Rattle.reassembly.specs.Table.{chunk, splice, stays, takeAt, Lands}
 use Rattle.reassembly.specs.declared.slot.Key.{Key}
 use Rattle.reassembly.specs.declared.slot.Slot.{Slot}

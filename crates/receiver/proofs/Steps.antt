@@ -8,14 +8,14 @@ use mathlib.Core.Path.{_≡_, refl, sym, ap, ap₂, subst, _∙_}
 use lib.ListN.{length, take, drop, length-drop}
 use lib.Seq.{take-all, take-at}
 use borrow.Author.Tests.{le-leb}
-use Rattle.octets.specs.Read.{Answer, is, refused, andThen, choose}
+use Rattle.octets.specs.Read.{Answer, is, refused, andThen}
 use Rattle.octets.specs.Refusal.{numberOf}
 use Rattle.octets.specs.Write.{put}
 use Rattle.octets.proofs.Spans.{not-refused}
 use Rattle.octets.proofs.Puts.{put-front}
 use Rattle.octets.specs.declared.refusal.Refusal.{Refusal}
 use Rattle.octets.specs.declared.refusal.Refusal.the-variants.{NotGateway, NoAddress}
-use Rattle.incoming.specs.Incoming.{ofArrival, arrival, Brought, payload, payloadIn, Brings}
+use Rattle.incoming.specs.Incoming.{ofArrival, arrival, Brought, payloadIn, Brings}
 use Rattle.incoming.specs.declared.arrival.Arrival.{Arrival}
 use Rattle.incoming.specs.declared.arrival.ArrivalAnswer.{ArrivalAnswer}
 use Rattle.incoming.specs.declared.payload.Payload.{Payload}

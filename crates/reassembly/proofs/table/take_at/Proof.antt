@@ -1,6 +1,6 @@
-use Prim.Native.Nat.{_≤_, _<_}
+use Prim.Native.Nat.{_<_}
 use native.Mathlib.Omega.{arith}
-use mathlib.Core.Path.{_≡_, sym, _∙_}
+use mathlib.Core.Path.{sym, _∙_}
 use borrow.Author.Tests.{not-true, not-false}
 use Rattle.reassembly.specs.Parts.{partOf}
 use Rattle.reassembly.proofs.Answers.{ready, enough-memory}
