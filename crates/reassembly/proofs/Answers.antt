@@ -17,7 +17,7 @@ use Rattle.octets.specs.declared.refusal.Refusal.{Refusal}
 use Rattle.reassembly.specs.Lists.{count, firstAt, those}
 use Rattle.reassembly.specs.Slots.{present, owner, freeSlot, opened, isFree, isKey, expired, expire1, expire, gatesOf, isGate, free, mayOpen, opening}
 use Rattle.reassembly.specs.Parts.{Part, partOf, Reply, out, refused, fitsIn, fits, Put, place, offer, Placeable}
-use Rattle.reassembly.specs.Table.{Call, State, Result, other, part, short, chunk, withSlots, untouched, slotsAt, pass, land, whereKey, whereFree, offerAt, openAt, takePart, step, lentCall, At, Lands, Gives, Aged}
+use Rattle.reassembly.specs.Table.{Call, State, Result, other, part, short, chunk, splice, withSlots, untouched, slotsAt, pass, land, whereKey, whereFree, offerAt, openAt, takePart, step, lentCall, At, Lands, Gives, Aged}
 use Rattle.reassembly.specs.declared.slot.Key.{Key}
 use Rattle.reassembly.specs.declared.slot.Slot.{Slot}
 use Rattle.reassembly.specs.declared.part.Outcome.{Outcome}
@@ -26,7 +26,7 @@ use Rattle.reassembly.specs.declared.table.Table.{Table}
 use Rattle.reassembly.specs.declared.table.Received.{Received}
 use Rattle.reassembly.proofs.Tests.{by-test, and-left, and-right}
 use Rattle.reassembly.proofs.Lists.{getD-any, firstAt-holds, firstAt-found}
-use Rattle.reassembly.proofs.Gateways.{isKey-key, expire1-young, mayOpen-rule}
+use Rattle.reassembly.proofs.Gateways.{isKey-key, length-expire, expire1-young, mayOpen-rule}
 use Rattle.reassembly.proofs.Memory.{length-chunk}
 
 -- ---- the loop that frees in place
@@ -62,7 +62,7 @@ aged-more t (suc i) [] d h = refl
 aged-more t (suc i) (s ∷ l) d h = ap (λ z. expire1 t s ∷ z) (aged-more t i l d (le-of-suc-le-suc h))
 
 -- where none is old, nothing is freed
-pub none-old : (t : ℕ) (l : List Slot) → count (expired t) l ≡ 0 → expire t l ≡ l
+none-old : (t : ℕ) (l : List Slot) → count (expired t) l ≡ 0 → expire t l ≡ l
 unfolding count expire
 none-old t [] e = refl
 none-old t (s ∷ l) e = by-test (expired t s)
@@ -91,6 +91,28 @@ aged-of tb x t i n h e g = record {
   gates = g;
   eight = ap length e ∙ length-aged t i (tb .slots) ∙ n;
 }
+
+-- as it leaves a table that is aged whole, and one that has no old slot
+pub aged-whole : (tb x : Table) (t : ℕ) → length (tb .slots) ≡ 8 → x ≡ withSlots tb t (expire t (tb .slots)) → Aged tb x t
+unfolding withSlots
+aged-whole tb x t n e = record { slots = ap (λ z. z .slots) e; gates = ap (λ z. z .gateways) e; eight = ap (λ z. length (z .slots)) e ∙ length-expire t (tb .slots) ∙ n }
+
+pub aged-young : (tb : Table) (t : ℕ) → length (tb .slots) ≡ 8 → count (expired t) (tb .slots) ≡ 0 → Aged tb tb t
+aged-young tb t n e = record { slots = sym (none-old t (tb .slots) e); gates = refl; eight = n }
+
+pub gates-of : (x : Table) → gatesOf x ≡ those present (x .gateways)
+unfolding gatesOf
+gates-of x = refl
+
+pub gates-same : (tb x : Table) (t : ℕ) → Aged tb x t → those present (x .gateways) ≡ gatesOf tb
+unfolding gatesOf
+gates-same tb x t G = rw (G .gates)
+
+-- what a call comes to: its reply, and the table and the lent memory after it
+pub record Leaves (q : Result) (a : Reply (List ℕ)) (x : Table) (m : List ℕ) : Type 0 where
+  pub reply : q .reply ≡ a
+  pub table : x ≡ q .state .table
+  pub memory : m ≡ q .state .mem
 
 pub aged-is : (tb x : Table) (t : ℕ) → Aged tb x t → record { slots = x .slots; last = t; gateways = x .gateways } ≡ withSlots tb t (expire t (tb .slots))
 unfolding withSlots
@@ -149,9 +171,13 @@ module _ (tb : Table) (m o : List ℕ) (t : ℕ) (c : Call) where
 
 -- a call that brings no part: the time is taken, old slots are freed, and it is answered
 module _ (tb : Table) (m o : List ℕ) (t : ℕ) (enough : (ltb (length m) 16384 || ltb (length o) 2047) ≡ false) (late : tb .last ≤ t) (x : Table) (e : x ≡ withSlots tb t (expire t (tb .slots))) where
-  pub others : (a : Reply (List ℕ)) → step (state tb m) (lentCall m o (other t a)) ≡ pass (state tb m) t a
+  others : (a : Reply (List ℕ)) → step (state tb m) (lentCall m o (other t a)) ≡ pass (state tb m) t a
   unfolding step lentCall
   others a = rw (enough, le-ltb t (tb .last) late)
+
+  pub leaves-other : (a : Reply (List ℕ)) → Leaves (step (state tb m) (lentCall m o (other t a))) a x m
+  unfolding pass slotsAt
+  leaves-other a = rw (others a) record { reply = refl; table = e; memory = refl }
 
   pub gives-refusal : (r : Refusal) → Gives (record { answer = Outcome.Refused r; table = x }) m o o (step (state tb m) (lentCall m o (other t (refused (numberOf r)))))
   unfolding pass slotsAt
@@ -173,7 +199,7 @@ module _ (tb : Table) (m o : List ℕ) (t : ℕ) (p : Part) where
       unfolding slotsAt
       slots-are = sym (G .slots)
 
-      pub table-is : record { slots = x .slots; last = t; gateways = x .gateways } ≡ withSlots tb t (slotsAt t (state tb m))
+      table-is : record { slots = x .slots; last = t; gateways = x .gateways } ≡ withSlots tb t (slotsAt t (state tb m))
       unfolding withSlots
       table-is = rw (slots-are, G .gates)
 
@@ -182,9 +208,19 @@ module _ (tb : Table) (m o : List ℕ) (t : ℕ) (p : Part) where
       gates-are = rw (G .gates)
 
       -- what is left of x: as it is, or with another slot
-      pub table-with : (i : ℕ) (s : Slot) → record { slots = set (x .slots) i s; last = t; gateways = x .gateways } ≡ withSlots tb t (set (slotsAt t (state tb m)) i s)
+      table-with : (i : ℕ) (s : Slot) → record { slots = set (x .slots) i s; last = t; gateways = x .gateways } ≡ withSlots tb t (set (slotsAt t (state tb m)) i s)
       unfolding withSlots
       table-with i s = rw (slots-are, G .gates)
+
+      leaves-pass : (n : ℕ) → step (state tb m) (lentCall m o (part t p)) ≡ pass (state tb m) t (refused n)
+          → Leaves (step (state tb m) (lentCall m o (part t p))) (refused n) (record { slots = x .slots; last = t; gateways = x .gateways }) m
+      unfolding pass
+      leaves-pass n e = rw e record { reply = refl; table = table-is; memory = refl }
+
+      leaves-land : (i n : ℕ) (q : Put) → step (state tb m) (lentCall m o (part t p)) ≡ land (state tb m) t i n q
+          → Leaves (step (state tb m) (lentCall m o (part t p))) (q .reply) (record { slots = set (x .slots) i (q .slot); last = t; gateways = x .gateways }) (splice m i (q .bytes))
+      unfolding land
+      leaves-land i n q e = rw e record { reply = refl; table = table-with i (q .slot); memory = refl }
 
       gives-pass : (r : Refusal) → step (state tb m) (lentCall m o (part t p)) ≡ pass (state tb m) t (refused (numberOf r))
           → Gives (record { answer = Outcome.Refused r; table = record { slots = x .slots; last = t; gateways = x .gateways } }) m o o (step (state tb m) (lentCall m o (part t p)))
@@ -207,9 +243,12 @@ module _ (tb : Table) (m o : List ℕ) (t : ℕ) (p : Part) where
       gives-9 h = gives-pass Refusal.NotGateway (timed ∙ rw (sym gates-are ∙ h))
 
       module _ (known : isGate (owner (p .key)) (those present (x .gateways)) ≡ true) where
-        pub step-10 : fits p ≡ false → step (state tb m) (lentCall m o (part t p)) ≡ pass (state tb m) t (refused 10)
+        step-10 : fits p ≡ false → step (state tb m) (lentCall m o (part t p)) ≡ pass (state tb m) t (refused 10)
         unfolding takePart
         step-10 h = timed ∙ rw (sym gates-are ∙ known, h)
+
+        pub leaves-10 : fits p ≡ false → Leaves (step (state tb m) (lentCall m o (part t p))) (refused 10) (record { slots = x .slots; last = t; gateways = x .gateways }) m
+        leaves-10 h = leaves-pass 10 (step-10 h)
 
         pub gives-10 : fits p ≡ false
             → Gives (record { answer = Outcome.Refused Refusal.BadPart; table = record { slots = x .slots; last = t; gateways = x .gateways } }) m o o (step (state tb m) (lentCall m o (part t p)))
@@ -220,18 +259,22 @@ module _ (tb : Table) (m o : List ℕ) (t : ℕ) (p : Part) where
           unfolding whereKey
           where-is = rw slots-are at
 
-          pub step-offer : f < 8 → (d : Slot) → step (state tb m) (lentCall m o (part t p)) ≡ land (state tb m) t f 0 (offer (getD (x .slots) f d) (chunk f m) p)
+          step-offer : f < 8 → (d : Slot) → step (state tb m) (lentCall m o (part t p)) ≡ land (state tb m) t f 0 (offer (getD (x .slots) f d) (chunk f m) p)
           unfolding takePart offerAt
           step-offer h d =
               let s : getD (slotsAt t (state tb m)) f freeSlot ≡ getD (x .slots) f d = rw slots-are (getD-any (x .slots) f freeSlot d (omega (arith, G .eight))) in
               timed ∙ rw (sym gates-are ∙ known, good, where-is, lt-ltb f 8 h, s)
+
+          pub leaves-offer : f < 8 → (d : Slot) (q : Put) → q ≡ offer (getD (x .slots) f d) (chunk f m) p
+              → Leaves (step (state tb m) (lentCall m o (part t p))) (q .reply) (record { slots = set (x .slots) f (q .slot); last = t; gateways = x .gateways }) (splice m f (q .bytes))
+          leaves-offer h d q e = leaves-land f 0 q (step-offer h d ∙ ap (land (state tb m) t f 0) (sym e))
 
           pub gives-offer : f < 8 → (d : Slot) (r : InSlot) (m′ o′ : List ℕ) → Lands r f m m′ o o′ (offer (getD (x .slots) f d) (chunk f m) p)
               → Gives (record { answer = r .outcome; table = record { slots = set (x .slots) f (r .slot); last = t; gateways = x .gateways } }) m′ o o′ (step (state tb m) (lentCall m o (part t p)))
           gives-offer h d r m′ o′ D = gives-land f 0 (offer (getD (x .slots) f d) (chunk f m) p) r m′ o′ (step-offer h d) D
 
           module _ (none : 8 ≤ f) (low : ℕ) (opens : opening (owner (p .key)) (those present (x .gateways)) (x .slots) ≡ low) where
-            pub step-open : low < 8 → step (state tb m) (lentCall m o (part t p)) ≡ land (state tb m) t low 1 (place (opened (p .key) t) (chunk low m) p)
+            step-open : low < 8 → step (state tb m) (lentCall m o (part t p)) ≡ land (state tb m) t low 1 (place (opened (p .key) t) (chunk low m) p)
             unfolding takePart openAt whereFree opening gatesOf
             step-open h = by-test (mayOpen (owner (p .key)) (those present (x .gateways)) (x .slots))
                 (λ e.
@@ -241,11 +284,15 @@ module _ (tb : Table) (m o : List ℕ) (t : ℕ) (p : Part) where
                 let w : 8 ≡ low = rw e at opens in
                 absurd (omega arith))
 
+            pub leaves-open : low < 8 → (q : Put) → q ≡ place (opened (p .key) t) (chunk low m) p
+                → Leaves (step (state tb m) (lentCall m o (part t p))) (q .reply) (record { slots = set (x .slots) low (q .slot); last = t; gateways = x .gateways }) (splice m low (q .bytes))
+            leaves-open h q e = leaves-land low 1 q (step-open h ∙ ap (land (state tb m) t low 1) (sym e))
+
             pub gives-open : low < 8 → (r : InSlot) (m′ o′ : List ℕ) → Lands r low m m′ o o′ (place (opened (p .key) t) (chunk low m) p)
                 → Gives (record { answer = r .outcome; table = record { slots = set (x .slots) low (r .slot); last = t; gateways = x .gateways } }) m′ o o′ (step (state tb m) (lentCall m o (part t p)))
             gives-open h r m′ o′ D = gives-land low 1 (place (opened (p .key) t) (chunk low m) p) r m′ o′ (step-open h) D
 
-            pub step-12 : 8 ≤ low → step (state tb m) (lentCall m o (part t p)) ≡ pass (state tb m) t (refused 12)
+            step-12 : 8 ≤ low → step (state tb m) (lentCall m o (part t p)) ≡ pass (state tb m) t (refused 12)
             unfolding takePart opening gatesOf free
             step-12 h = by-test (mayOpen (owner (p .key)) (those present (x .gateways)) (x .slots))
                 (λ e.
@@ -253,6 +300,9 @@ module _ (tb : Table) (m o : List ℕ) (t : ℕ) (p : Part) where
                 let r : 1 ≤ count isFree (x .slots) = mayOpen-rule (owner (p .key)) (those present (x .gateways)) (x .slots) e .room in
                 absurd (omega (arith, G .eight, firstAt-found isFree (x .slots) r)))
                 (λ e. timed ∙ rw (sym gates-are ∙ known, good, where-is, le-ltb f 8 none, slots-are, ← G .gates, e))
+
+            pub leaves-12 : 8 ≤ low → Leaves (step (state tb m) (lentCall m o (part t p))) (refused 12) (record { slots = x .slots; last = t; gateways = x .gateways }) m
+            leaves-12 h = leaves-pass 12 (step-12 h)
 
             pub gives-12 : 8 ≤ low
                 → Gives (record { answer = Outcome.Refused Refusal.NoSlot; table = record { slots = x .slots; last = t; gateways = x .gateways } }) m o o (step (state tb m) (lentCall m o (part t p)))

@@ -10,5 +10,6 @@ pub mod Fresh
 pub mod Fits
 pub mod OneSlot
 pub mod AtSlot
+pub mod Sized
 pub mod Origin
 pub mod Promises

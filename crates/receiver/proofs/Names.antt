@@ -13,12 +13,15 @@ use Rattle.incoming.specs.Incoming.{arrival, Brought, datagram, payload}
 use Rattle.incoming.specs.Incoming as Incoming
 use Rattle.incoming.specs.declared.arrival.Arrival.{Arrival}
 use Rattle.incoming.proofs.Names.{Headed, part-header}
+use Rattle.incoming.proofs.Sized.{SizedBrought, payload-sized}
 use Rattle.reassembly.specs.Slots.{nodeOf, present, owner, isGate}
 use Rattle.reassembly.specs.Parts.{Part, Reply}
-use Rattle.reassembly.specs.Table.{Call, short, other, part, lentCall, At, after}
+use Rattle.reassembly.specs.Table.{Call, short, other, part, lentCall, step, At, after}
+use Rattle.reassembly.specs.declared.table.Table.{Table}
 use Rattle.reassembly.specs.declared.slot.Node.{Node}
 use Rattle.reassembly.specs.declared.slot.Key.{Key}
 use Rattle.reassembly.proofs.Tests.{by-test}
+use Rattle.reassembly.proofs.Sized.{Sized, SizedCall, lent-sized}
 use Rattle.receiver.specs.Receive.{keyOf, welcome, admitted, brings, carries, frameCall, callOf}
 use Rattle.receiver.specs.Names.{named}
 
@@ -104,6 +107,10 @@ frame-after : (n : ℕ) (gs : List Node) (ctx : List ℕ) (t : ℕ) (s : List �
 unfolding frameCall
 frame-after n gs ctx t s = carries-after n t ctx s (admitted gs s)
 
+pub call-of : (m o : List ℕ) (gs : List Node) (ctx : List ℕ) (t : ℕ) (s : List ℕ) → lentCall m o (frameCall gs ctx t s) ≡ callOf m o gs ctx t s
+unfolding callOf
+call-of m o gs ctx t s = refl
+
 pub frame-at : (gs : List Node) (ctx : List ℕ) (t : ℕ) (s : List ℕ) → At (frameCall gs ctx t s) t
 unfolding frameCall
 frame-at gs ctx t s = go (admitted gs s)
@@ -145,3 +152,21 @@ module _ (m o : List ℕ) (gs : List Node) (ctx : List ℕ) (t : ℕ) (s : List 
   pub call-memory : (m′ : List ℕ) → length m′ ≡ length m → callOf m′ o gs ctx t s ≡ callOf m o gs ctx t s
   unfolding callOf lentCall
   call-memory m′ e = rw e
+
+-- ---- how long a datagram is that is handed out
+brings-sized : (t : ℕ) (a : Arrival) (b : Answer Brought) → SizedBrought b → SizedCall (brings t a b)
+brings-sized t a (is (datagram d)) h = (h .0, omega (arith, h .1))
+brings-sized t a (is (Incoming.part size tag v bs el)) h = tt
+brings-sized t a (refused r) h = tt
+
+frame-sized : (gs : List Node) (ctx : List ℕ) (t : ℕ) (s : List ℕ) → SizedCall (frameCall gs ctx t s)
+unfolding frameCall
+frame-sized gs ctx t s = go (admitted gs s)
+  where
+    go : (r : Answer Arrival) → SizedCall (carries t ctx s r)
+    go (is a) = brings-sized t a (payload ctx a s) (payload-sized ctx a s)
+    go (refused r) = tt
+
+pub call-sized : (tb : Table) (m o : List ℕ) (gs : List Node) (ctx : List ℕ) (t : ℕ) (s : List ℕ) → length (tb .slots) ≡ 8 → Sized (step (record { table = tb; mem = m }) (callOf m o gs ctx t s) .reply)
+unfolding callOf
+call-sized tb m o gs ctx t s eight = lent-sized tb m o (frameCall gs ctx t s) eight (frame-sized gs ctx t s)
