@@ -1,6 +1,9 @@
 // A reading place in a slice of bytes, handed on by value. Each step answers the field with the place after it, or the
 // refusal: 1 where the bytes end first.
 ghost use mathlib.Core.Path.{_≡_};
+ghost use Prim.Native.Nat.{_+_};
+ghost use lib.Dec.{ltb};
+ghost use lib.ListN.{length};
 ghost use Rattle.octets.specs.Read.{byte, be16, be32, be64, le16, le32, le64, skip};
 ghost use Rattle.octets.specs.Answers.{ofByte, ofWord, ofWide, ofLong, ofSkip};
 use super::refusal::Refusal;
@@ -32,6 +35,17 @@ pub enum LongRead {
 pub enum Skipped {
     Past(Cursor),
     Refused(Refusal),
+}
+
+// Whether fewer than eight bytes are left from a place on. A number of eight bytes is read byte by byte, and the compiler drops the
+// tests of its bytes behind this one.
+fn lacks_eight(s: &[u8], at: usize) -> bool
+    ensures { λ r. ⌜ r ≡ ltb (length (now (s .entry))) (at + 8) ⌝ }
+{
+    if s.len() < 8 {
+        return true;
+    }
+    s.len() - 8 < at
 }
 
 impl Cursor {
@@ -117,6 +131,9 @@ impl Cursor {
     pub fn be64(self, s: &[u8]) -> LongRead
         ensures { λ r. ⌜ ofLong r ≡ be64 (now (s .entry)) (self .at) ⌝ }
     {
+        if lacks_eight(s, self.at) {
+            return LongRead::Refused(Refusal::Ended);
+        }
         match self.be32(s) {
             WideRead::Field(hi, c) => match c.be32(s) {
                 WideRead::Field(lo, d) => LongRead::Field(
