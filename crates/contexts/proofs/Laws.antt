@@ -1,5 +1,5 @@
 -- A slice that is laid flat, context after context, is the flat bytes that it means.
-use Prim.Native.Nat.{ℕ, zero, suc, _+_, _-_, _*_, _^_, _≤_, _<_, min}
+use Prim.Native.Nat.{ℕ, zero, suc, _+_, _-_, _*_, _≤_, _<_, min}
 use native.Mathlib.Nat.{not-suc-le-zero, le-of-suc-le-suc, sub-zero}
 use native.Mathlib.Omega.{arith}
 use mathlib.Core.Path.{_≡_, refl, sym, ap, _∙_}
@@ -8,11 +8,10 @@ use mathlib.Core.List.{List, [], _∷_, _++_, append-assoc, append-nil}
 use lib.ListN.{length, getD, take, drop, length-append, length-replicate}
 use lib.Seq.{take-at, take-all, length-take-le}
 use borrow.Author.Tests.{lt-ltb, le-ltb, le-leb, lt-leb}
-use Rattle.octets.specs.Read.{got, byte, be16, be32, be64}
 use Rattle.octets.specs.Write.{put}
-use Rattle.iphc.specs.Context as Context
 use Rattle.iphc.specs.Context.{contextAt}
 use Rattle.iphc.specs.declared.context.AddressContext.{AddressContext}
+use Rattle.iphc.proofs.Contexts.{context-front}
 use Rattle.expand.proofs.CopyLaws.{put-inside, length-put}
 use Rattle.reassembly.proofs.Tests.{by-order}
 use Rattle.contexts.specs.declared.Flat.{Flat}
@@ -105,41 +104,6 @@ bytes-of f n r e =
     (λ h. take-all n (f .bytes) (omega (arith, r, e, h)) ∙ sym (take-all (f .len) (f .bytes) (omega (arith, r, h))))
 
 -- ---- sixteen are enough: an identifier below 16 means the same context in the whole slice
-byte-front : (x y : List ℕ) (at : ℕ) → at < length x → (byte (x ++ y) at ≡ got (getD x at 0) (at + 1)) × (byte x at ≡ got (getD x at 0) (at + 1))
-unfolding byte
-byte-front x y at h =
-    let k : at < length (x ++ y) = omega (arith, h, length-append x y) in
-    (rw (lt-ltb at (length (x ++ y)) k) (ap (λ z. got z (at + 1)) (getD-front x y at h)), rw (lt-ltb at (length x) h) refl)
-  where
-    getD-front : (x y : List ℕ) (at : ℕ) → at < length x → getD (x ++ y) at 0 ≡ getD x at 0
-    getD-front [] y at h = absurd (not-suc-le-zero h)
-    getD-front (a ∷ x) y zero h = refl
-    getD-front (a ∷ x) y (suc at) h = getD-front x y at (le-of-suc-le-suc h)
-
-be16-front : (x y : List ℕ) (at : ℕ) → at + 2 ≤ length x → (be16 (x ++ y) at ≡ got (getD x at 0 * 256 + getD x (at + 1) 0) (at + 1 + 1)) × (be16 x at ≡ got (getD x at 0 * 256 + getD x (at + 1) 0) (at + 1 + 1))
-unfolding be16
-be16-front x y at h =
-    let a = byte-front x y at (omega (arith, h)) in
-    let b = byte-front x y (at + 1) (omega (arith, h)) in
-    (rw (a .0, b .0) refl, rw (a .1, b .1) refl)
-
-abbrev word : List ℕ → ℕ → ℕ
-word x at = getD x at 0 * 256 + getD x (at + 1) 0
-
-be32-front : (x y : List ℕ) (at : ℕ) → at + 4 ≤ length x → (be32 (x ++ y) at ≡ got (word x at * 2 ^ 16 + word x (at + 1 + 1)) (at + 1 + 1 + 1 + 1)) × (be32 x at ≡ got (word x at * 2 ^ 16 + word x (at + 1 + 1)) (at + 1 + 1 + 1 + 1))
-unfolding be32
-be32-front x y at h =
-    let a = be16-front x y at (omega (arith, h)) in
-    let b = be16-front x y (at + 1 + 1) (omega (arith, h)) in
-    (rw (a .0, b .0) refl, rw (a .1, b .1) refl)
-
-be64-front : (x y : List ℕ) (at : ℕ) → at + 8 ≤ length x → be64 x at ≡ be64 (x ++ y) at
-unfolding be64
-be64-front x y at h =
-    let a = be32-front x y at (omega (arith, h)) in
-    let b = be32-front x y (at + 1 + 1 + 1 + 1) (omega (arith, h)) in
-    rw (a .0, a .1, b .0, b .1) refl
-
 flat-apart : (k : ℕ) (cs : List AddressContext) → flat (take k cs) ++ flat (drop k cs) ≡ flat cs
 unfolding flat
 flat-apart zero cs = refl
@@ -152,8 +116,8 @@ length-flat [] = refl
 length-flat (c ∷ cs) = length-append (eight (c .0)) (flat cs) ∙ omega (arith, length-eight (c .0), length-flat cs)
 
 pub sixteen : (cs : List AddressContext) (id : ℕ) → id < 16 → contextAt (listed cs) id ≡ contextAt (flat cs) id
-unfolding contextAt listed
+unfolding listed
 sixteen cs id h =
     by-order (length cs) 16 (λ w. ap (λ z. contextAt (flat z) id) (take-all 16 cs w))
     (λ w. let n : id * 8 + 8 ≤ length (flat (take 16 cs)) = omega (arith, h, length-flat (take 16 cs), length-take-le 16 cs (omega (arith, w))) in
-    ap Context.listed (be64-front (flat (take 16 cs)) (flat (drop 16 cs)) (id * 8) n ∙ ap (λ z. be64 z (id * 8)) (flat-apart 16 cs)))
+    sym (context-front (flat (take 16 cs)) (flat (drop 16 cs)) id n) ∙ ap (λ z. contextAt z id) (flat-apart 16 cs))

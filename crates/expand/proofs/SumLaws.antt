@@ -159,6 +159,10 @@ module _ (d : List ℕ) (low : 48 ≤ length d) (high : length d ≤ 65575) wher
     checksum-ones h = rw (← ones-folded, h) refl
 
 -- ---- in lent bytes
+pub summed-put : (d : List ℕ) → summed d ≡ put 46 (be16Bytes (udpChecksum d)) d
+unfolding summed
+summed-put d = refl
+
 pub too-short : (n : ℕ) (l : List ℕ) → n < 48 → l ≡ summedIn n l
 unfolding summedIn
 too-short n l h = rw (lt-leb 48 n h) refl

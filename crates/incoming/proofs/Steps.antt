@@ -47,6 +47,11 @@ pub arrival-short : (s : List ℕ) (a : Arrival) → arrival s ≡ is a → leng
 unfolding arrival
 arrival-short s a e = short-go s (mac s) refl _ a e
 
+-- ---- a scratch of 175 bytes is enough
+pub in-room : (room ctx : List ℕ) (a : Arrival) (s : List ℕ) → 175 ≤ length room → payloadIn room ctx a s ≡ payload ctx a s
+unfolding payloadIn
+in-room room ctx a s big = rw (le-leb 175 (length room) big)
+
 -- ---- an expansion m of at most 175 bytes, into a room of 175 at least
 Small : Answer Expansion → Type 0
 Small m = (e : Expansion) → m ≡ is e → length (e .bytes) ≤ 175

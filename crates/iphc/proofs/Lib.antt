@@ -1,4 +1,5 @@
 pub mod Steps
+pub mod Contexts
 pub mod Puts
 pub mod RoundTrip
 pub mod Lengths

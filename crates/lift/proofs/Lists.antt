@@ -2,22 +2,21 @@
 use Prim.Native.Nat.{ℕ, zero, suc, _+_, _*_, _/_, _%_, _≤_, _<_}
 use native.Mathlib.Omega.{arith}
 use mathlib.Core.Path.{_≡_, refl, sym, ap, _∙_}
-use mathlib.Core.Bool.{Bool, true, false, _||_}
+use mathlib.Core.Bool.{true, false}
 use mathlib.Core.List.{List, [], _∷_, map}
 use lib.ListN.{length, getD, take}
-use lib.Dec.{eqb, ltb}
-use borrow.Author.Tests.{lt-ltb, ltb-false}
-use Rattle.octets.specs.Read.{Answer, is, refused, choose}
+use lib.Dec.{eqb}
+use Rattle.octets.specs.Read.{choose}
 use Rattle.octets.specs.Refusal.{numberOf}
 use Rattle.octets.specs.declared.refusal.Refusal.{Refusal}
 use Rattle.ieee802154.specs.declared.addr.Address.{Address}
 use Rattle.ieee802154.specs.declared.addr.Address.the-variants.{Absent}
 use Rattle.reassembly.specs.Slots.{nodeOf}
-use Rattle.reassembly.specs.Fresh.{ofListed, nodes, refusedList, listed, made, fresh, Begins}
-use Rattle.reassembly.specs.declared.slot.Node.{Node}
+use Rattle.reassembly.specs.Fresh.{nodes, refusedList, fresh, Begins}
 use Rattle.reassembly.specs.declared.table.Table.{Table}
 use Rattle.reassembly.specs.declared.table.Listed.{Listed}
-use Rattle.reassembly.proofs.Tests.{by-test, by-order, no-both}
+use Rattle.reassembly.proofs.Tests.{by-order}
+use Rattle.reassembly.proofs.Fresh.{nodes-are, refuses-long, not-long, when-fit, when-accepted, when-refused}
 use Rattle.lift.specs.Face.{addressOf, addresses, addressAt, gateways, refusesList, begun, tableBegun}
 
 -- ---- two numbers each
@@ -45,16 +44,6 @@ how-many [] = refl
 how-many (k ∷ []) = refl
 how-many (k ∷ n ∷ l) = let e = how-many l in omega (arith, e)
 
-or-left : (a b : Bool) → (a || b) ≡ false → a ≡ false
-or-left true b h = h
-or-left false b h = refl
-
-abbrev no : ℕ → Answer (Unit {0})
-no n = refused n
-
-abbrev verdict : Bool → Answer (Unit {0})
-verdict b = choose b (refused 14) (is tt)
-
 -- ---- four at most
 four : (l : List Address) (d : Address) → length l ≤ 4 → take (length l) (getD l 0 d ∷ getD l 1 d ∷ getD l 2 d ∷ getD l 3 d ∷ []) ≡ l
 four [] d h = refl
@@ -69,47 +58,26 @@ four-is l a b c d p q r s = rw (p, q, r, s) refl
 
 module _ (l : List ℕ) (four-of : List Address) (n : ℕ) (are : four-of ≡ addressAt l 0 ∷ addressAt l 1 ∷ addressAt l 2 ∷ addressAt l 3 ∷ []) (many : n ≡ length (addresses l)) where
   same-nodes : n ≤ 4 → nodes n four-of ≡ gateways l
-  unfolding nodes gateways addressAt
-  same-nodes h = rw (are, many) (ap (map nodeOf) (four (addresses l) Absent (omega (arith, h, many))))
-
-  long : 4 < n → (gs : List Node) → refusedList n gs ≡ true
-  unfolding refusedList
-  long h gs = rw (lt-ltb 4 n h)
+  unfolding gateways addressAt
+  same-nodes h = nodes-are n four-of ∙ rw (are, many) (ap (map nodeOf) (four (addresses l) Absent (omega (arith, h, many))))
 
   same-refusal : refusedList n (nodes n four-of) ≡ refusesList l
   unfolding refusesList
   same-refusal =
       by-order n 4 (λ h. rw (same-nodes h) (ap (λ z. refusedList z (gateways l)) many))
-      (λ h. long h (nodes n four-of) ∙ sym (rw (sym many) (long h (gateways l))))
+      (λ h. refuses-long n (nodes n four-of) h ∙ sym (rw (sym many) (refuses-long n (gateways l) h)))
 
   module _ (x : Table) (y : Listed) (b : Begins y x n four-of) where
-    not-refused : y ≡ Listed.Accepted → refusedList n (nodes n four-of) ≡ false
-    unfolding listed
-    not-refused e = by-test (refusedList n (nodes n four-of)) (λ h. cc (ap ofListed e, b .answer, ap verdict h)) (λ h. h)
-
-    is-refused : (r : Refusal) → y ≡ Listed.Refused r → (refusedList n (nodes n four-of) ≡ true) × (numberOf r ≡ 14)
-    unfolding listed
-    is-refused r e =
-        by-test (refusedList n (nodes n four-of)) (λ h. (h, number-is (sym (ap ofListed e) ∙ b .answer ∙ ap verdict h)))
-        (λ h. no-both true refl (accepted (sym (ap ofListed e) ∙ b .answer ∙ ap verdict h)))
-      where
-        number-is : {m k : ℕ} → no m ≡ no k → m ≡ k
-        number-is q = cc q
-
-        accepted : {m : ℕ} → no m ≡ is tt → true ≡ false
-        accepted q = cc q
-
     pub begun-list : y ≡ Listed.Accepted → (0 ≡ begun l) × ((t : Table) → choose (eqb 0 0) x t ≡ tableBegun t l)
-    unfolding begun tableBegun made refusedList
+    unfolding begun tableBegun
     begun-list e =
-        let h = not-refused e in
+        let h = when-accepted n four-of y x b e in
         let k : refusesList l ≡ false = sym same-refusal ∙ h in
-        let few : n ≤ 4 = ltb-false 4 n (or-left (ltb 4 n) _ h) in
-        (rw k refl, λ t. rw k (b .table ∙ rw h (ap fresh (same-nodes few))))
+        (rw k refl, λ t. rw k (when-fit n four-of y x b h ∙ ap fresh (same-nodes (not-long n (nodes n four-of) h))))
 
     pub refused-list : (r : Refusal) → y ≡ Listed.Refused r → (j : ℕ) → j ≡ numberOf r → (j ≡ begun l) × ((t : Table) → choose (eqb j 0) x t ≡ tableBegun t l)
     unfolding begun tableBegun
     refused-list r e j q =
-        let h = is-refused r e in
+        let h = when-refused n four-of y x b r e in
         let k : refusesList l ≡ true = sym same-refusal ∙ h .0 in
         (rw k (q ∙ h .1), λ t. rw (k, q ∙ h .1) refl)

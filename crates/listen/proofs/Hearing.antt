@@ -8,8 +8,7 @@ use mathlib.Core.Path.{_≡_, refl, sym, ap, ap₂, _∙_}
 use lib.ListN.{length, getD, drop, drop-of-length-le}
 use lib.Seq.{drop-cons}
 use lib.Dec.{leb}
-use Rattle.octets.specs.Read.{Answer, is, refused, choose}
-use Rattle.octets.specs.Refusal.{numberOf}
+use Rattle.octets.specs.Read.{choose}
 use Rattle.octets.specs.declared.refusal.Refusal.{Refusal}
 use Rattle.octets.specs.Write.{put}
 use Rattle.text.specs.Text.{Printed}
@@ -17,11 +16,13 @@ use Rattle.capture.specs.Block.{Timed, countOf, timeOf, frameOf, timedOf, frame
 use Rattle.capture.specs.declared.block.Judged.{Judged}
 use Rattle.capture.specs.Made.{noFrame}
 use Rattle.capture.proofs.Exact.{frames-length, frames-at}
+use Rattle.capture.proofs.Unique.{told-good, told-bad}
 use Rattle.reassembly.specs.Lists.{count}
 use Rattle.reassembly.specs.Slots.{gatesOf, sameNode, present}
 use Rattle.reassembly.specs.Parts.{ofOutcome, told, outputAfter}
 use Rattle.reassembly.specs.Table.{step, Gives}
-use Rattle.reassembly.specs.Fresh.{nodes, unfit, refusedList, made, Begins}
+use Rattle.reassembly.specs.Fresh.{fresh, nodes, unfit, refusedList, Begins}
+use Rattle.reassembly.proofs.Fresh.{nodes-are, when-fit}
 use Rattle.reassembly.specs.declared.table.Listed.{Listed}
 use Rattle.reassembly.specs.declared.table.Table.{Table}
 use Rattle.reassembly.specs.declared.table.Received.{Received}
@@ -101,29 +102,8 @@ gone s k x₀ x p₀ p g h =
     (sym (ap (afterFrames x) e) ∙ g .after, sym (ap (λ q. putLines (saidOfAll x q) p) e) ∙ g .said)
 
 -- ---- a block
-good-go : (t : Bool) (n k : ℕ) → _≡_ {A = Answer ℕ} (is n) (choose t (is k) (refused 15)) → t ≡ true
-good-go true n k e = refl
-good-go false n k e = cc
-
-count-go : (t : Bool) (n k : ℕ) → _≡_ {A = Answer ℕ} (is n) (choose t (is k) (refused 15)) → n ≡ k
-count-go true n k e = cc
-count-go false n k e = cc
-
-bad-go : (t : Bool) (n k : ℕ) → _≡_ {A = Answer ℕ} (refused n) (choose t (is k) (refused 15)) → t ≡ false
-bad-go true n k e = cc
-bad-go false n k e = refl
-
-good-told : (j : Judged) (b : ℕ) (s : List ℕ) (n : ℕ) → ofJudged j ≡ judged b s → j ≡ Judged.Good n → goodBlock b s ≡ true
-unfolding judged
-good-told j b s n p q = good-go (goodBlock b s) n (countOf s) (sym (ap ofJudged q) ∙ p)
-
 pub count-told : (j : Judged) (b : ℕ) (s : List ℕ) (n : ℕ) → ofJudged j ≡ judged b s → j ≡ Judged.Good n → n ≡ countOf s
-unfolding judged
-count-told j b s n p q = count-go (goodBlock b s) n (countOf s) (sym (ap ofJudged q) ∙ p)
-
-bad-told : (j : Judged) (b : ℕ) (s : List ℕ) (e : Refusal) → ofJudged j ≡ judged b s → j ≡ Judged.Refused e → goodBlock b s ≡ false
-unfolding judged
-bad-told j b s e p q = bad-go (goodBlock b s) (numberOf e) (countOf s) (sym (ap ofJudged q) ∙ p)
+count-told j b s n p q = told-good j b s p n q .1
 
 -- the frames heard, the next block is due
 pub heard-good : (x : Listener) (s : List ℕ) (j : Judged) (n : ℕ) (r : Heard) (m o was room : List ℕ) (at b : ℕ) → ofJudged j ≡ judged (x .ear .block) s → j ≡ Judged.Good n
@@ -131,7 +111,7 @@ pub heard-good : (x : Listener) (s : List ℕ) (j : Judged) (n : ℕ) (r : Heard
     → Hears (record { ear = record { table = r .ear .table; frames = r .ear .frames; block = b }; more = true; next = r .next }) m o was room at (hearBlock x s)
 unfolding hearBlock
 heard-good x s j n r m o was room at b p q h e =
-    let g : goodBlock (x .ear .block) s ≡ true = good-told j (x .ear .block) s n p q in
+    let g : goodBlock (x .ear .block) s ≡ true = told-good j (x .ear .block) s p n q .0 in
     let w : record { table = r .ear .table; frames = r .ear .frames; block = b } ≡ blockOn (afterFrames x (framesOf s)) .ear =
     ap (λ k. record { table = r .ear .table; frames = r .ear .frames; block = k }) e
     ∙ ap (λ (y : Ear). record { table = y .table; frames = y .frames; block = next (y .block) }) (h .ear) in
@@ -142,10 +122,15 @@ pub heard-bad : (x : Listener) (s : List ℕ) (j : Judged) (e : Refusal) (was ro
     → Hears (record { ear = x .ear; more = false; next = to }) (x .mem) (x .out) was room at (hearBlock x s)
 unfolding hearBlock putLines
 heard-bad x s j e was room at to p q h =
-    let g : goodBlock (x .ear .block) s ≡ false = bad-told j (x .ear .block) s e p q in
+    let g : goodBlock (x .ear .block) s ≡ false = told-bad j (x .ear .block) s p e q in
     rw g (record { ear = refl; memory = refl; output = refl; more = refl; text = page-is (badLine (x .ear .block)) was room at to h })
 
 -- ---- the beginning
+-- 14 lets the four pass: computed
+four-fit : refusedList 4 (nodes 4 gateways) ≡ false
+unfolding refusedList nodes unfit sameNode present count
+four-fit = refl
+
 pub begins : (y : Listed) (x : Table) → Begins y x 4 gateways → record { table = x; frames = 0; block = 0 } ≡ starting
-unfolding starting made refusedList nodes unfit sameNode present count
-begins y x b = ap (λ (t : Table). record { table = t; frames = 0; block = 0 }) (b .table)
+unfolding starting
+begins y x b = ap (λ (t : Table). record { table = t; frames = 0; block = 0 }) (when-fit 4 gateways y x b four-fit ∙ ap fresh (nodes-are 4 gateways))

@@ -6,9 +6,10 @@ use mathlib.Core.List.{List, [], _∷_, _++_}
 use Rattle.reassembly.specs.Slots.{owner, gatesOf, isGate, held}
 use Rattle.reassembly.specs.Parts.{Part}
 use Rattle.reassembly.specs.Table.{Call, part, State, after, Ready, comes, next, run}
-use Rattle.reassembly.specs.Fresh.{fresh, begun}
+use Rattle.reassembly.specs.Fresh.{begun}
 use Rattle.reassembly.specs.declared.slot.Node.{Node}
 use Rattle.reassembly.specs.declared.slot.Key.{Key}
+use Rattle.reassembly.proofs.Fresh.{fresh-last}
 use Rattle.reassembly.proofs.Runs.{gates-fresh, fresh-good, run-good, run-gates, comes-part, none-ready, none-before}
 use Rattle.promises.specs.Cuttings.{Cutting}
 use Rattle.promises.specs.Runs.{came, Forward, AllKept, Supposed, Concluded}
@@ -71,12 +72,14 @@ module _ (gs : List Node) (m : List ℕ) (k : Key) (d : List ℕ) (C : Cutting k
   clock = clock-is k (past ++ (mid ++ (part t q ∷ []))) 0 (H .forward)
 
   last-is : σ .table .last ≡ Engine.clock (engine k) 0 past
-  unfolding laws fresh σ
+  unfolding laws σ
   last-is =
+      let z : begun gs m .table .last ≡ 0 = fresh-last gs in
       let e : Engine.runs (engine k) (begun gs m) past .table .last ≡ Engine.clock (engine k) (begun gs m .table .last) past =
       Engine.runs-last (engine k) (C .parts) d (k .size) 60000 (laws k d C) past (begun gs m) fine₀
-      (Engine.Clock-left (engine k) past window 0 clock) (λ x y. tt) in
-      rw (run-is k past (begun gs m)) at e
+      (rw z (Engine.Clock-left (engine k) past window 0 clock)) (λ x y. tt) in
+      let f : σ .table .last ≡ Engine.clock (engine k) (begun gs m .table .last) past = rw (run-is k past (begun gs m)) at e in
+      f ∙ ap (λ n. Engine.clock (engine k) n past) z
 
   forward : Engine.Clock (engine k) (σ .table .last) window
   forward = rw last-is (Engine.Clock-right (engine k) past window 0 clock)

@@ -10,6 +10,8 @@ use lib.ListN.{length, getD, set, take, replicate, length-map}
 use lib.Seq.{take-at, length-take-le}
 use lib.Dec.{ltb, leb}
 use borrow.Author.Tests.{lt-ltb, le-ltb, lt-leb, ltb-false, leb-false}
+use Rattle.octets.specs.Read.{Answer, refused}
+use Rattle.octets.specs.Refusal.{numberOf}
 use Rattle.octets.specs.declared.refusal.Refusal.{Refusal}
 use Rattle.octets.proofs.Spans.{not-refused}
 use Rattle.ieee802154.specs.declared.addr.Address.{Address}
@@ -116,11 +118,45 @@ accepted n l h e =
           (λ c. omega arith);
     }
 
+-- ---- what the answer says of the list
+
+pub nodes-are : (n : ℕ) (l : List Address) → nodes n l ≡ map nodeOf (take n l)
+unfolding nodes
+nodes-are n l = refl
+
+pub refuses-long : (n : ℕ) (gs : List Node) → 4 < n → refusedList n gs ≡ true
+unfolding refusedList
+refuses-long n gs h = rw (lt-ltb 4 n h)
+
+pub not-long : (n : ℕ) (gs : List Node) → refusedList n gs ≡ false → n ≤ 4
+unfolding refusedList
+not-long n gs e = ltb-false 4 n (or-no (ltb 4 n) (leb 1 (count (unfit gs) gs)) e .0)
+
+module _ (n : ℕ) (l : List Address) (y : Listed) (x : Table) (B : Begins y x n l) where
+  pub when-fit : refusedList n (nodes n l) ≡ false → x ≡ fresh (nodes n l)
+  unfolding made
+  when-fit e = rw e at (B .table)
+
+  pub when-accepted : y ≡ Listed.Accepted → refusedList n (nodes n l) ≡ false
+  unfolding listed
+  when-accepted a = by-test (refusedList n (nodes n l)) (λ e. not-refused tt 14 (sym (B .answer ∙ rw e) ∙ ap ofListed a)) (λ e. e)
+
+  pub when-refused : (r : Refusal) → y ≡ Listed.Refused r → (refusedList n (nodes n l) ≡ true) × (numberOf r ≡ 14)
+  unfolding listed
+  when-refused r a = by-test (refusedList n (nodes n l))
+      (λ e. (e, number-is (sym (ap ofListed a) ∙ B .answer ∙ rw e)))
+      (λ e. not-refused tt (numberOf r) (sym (ap ofListed a) ∙ B .answer ∙ rw e))
+    where
+      number-is : {m k : ℕ} → _≡_ {A = Answer (Unit {0})} (refused m) (refused k) → m ≡ k
+      number-is q = cc q
+
 -- the table that `Table::new` makes of a list that it accepts is a fresh one, and the list is one that 14 lets pass
 pub new-fresh : (n : ℕ) (l : List Address) (x : Table) → length l ≡ 4 → Begins Listed.Accepted x n l → (x ≡ fresh (nodes n l)) × Gateways (nodes n l)
-unfolding listed made refusedList
-new-fresh n l x four B = by-test (refusedList n (nodes n l))
-    (λ e. not-refused tt 14 (sym (rw e at (B .answer))))
-    (λ e.
-    let short : n ≤ 4 = ltb-false 4 n (or-no (ltb 4 n) (leb 1 (count (unfit (nodes n l)) (nodes n l))) e .0) in
-    (rw e at (B .table), accepted n l (omega arith) e))
+new-fresh n l x four B =
+    let e = when-accepted n l Listed.Accepted x B refl in
+    (when-fit n l Listed.Accepted x B e, accepted n l (omega (arith, not-long n (nodes n l) e)) e)
+
+-- its last time
+pub fresh-last : (gs : List Node) → fresh gs .last ≡ 0
+unfolding fresh
+fresh-last gs = refl

@@ -5,6 +5,7 @@ pub mod Slots
 pub mod Gateways
 pub mod Memory
 pub mod Runs
+pub mod Lent
 pub mod Answers
 pub mod Fresh
 pub mod Fits

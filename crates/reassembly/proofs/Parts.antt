@@ -15,7 +15,7 @@ use Rattle.marks.specs.Marks.{hasIn, unpack}
 use Rattle.octets.proofs.Puts.{put-front}
 use Rattle.expand.specs.Sum.{udpChecksum, summed, summedIn}
 use Rattle.expand.proofs.CopyLaws.{length-put}
-use Rattle.expand.proofs.SumLaws.{too-short, summed-front}
+use Rattle.expand.proofs.SumLaws.{summed-put, too-short, summed-front}
 use Rattle.expand.proofs.ExpandLaws.{length-summed}
 use Rattle.octets.specs.declared.refusal.Refusal.{Refusal}
 use Rattle.reassembly.specs.Slots.{freeSlot}
@@ -42,9 +42,9 @@ length-finish true d = by-test (leb 48 (length d)) (λ h. rw h (length-summed d)
 length-finish false d = refl
 
 summed-byte : (d : List ℕ) (x : ℕ) → 48 ≤ length d → (x < 46) ⊎ (48 ≤ x) → getD (summed d) x 0 ≡ getD d x 0
-unfolding summed be16Bytes
-summed-byte d x l (inl h) = rw (put-sets 46 (be16Bytes (udpChecksum d)) d (omega arith)) (getD-sets-before (be16Bytes (udpChecksum d)) d 46 x 0 h)
-summed-byte d x l (inr h) = rw (put-sets 46 (be16Bytes (udpChecksum d)) d (omega arith)) (getD-sets-after (be16Bytes (udpChecksum d)) d 46 x 0 (omega arith))
+unfolding be16Bytes
+summed-byte d x l (inl h) = rw (summed-put d, put-sets 46 (be16Bytes (udpChecksum d)) d (omega arith)) (getD-sets-before (be16Bytes (udpChecksum d)) d 46 x 0 h)
+summed-byte d x l (inr h) = rw (summed-put d, put-sets 46 (be16Bytes (udpChecksum d)) d (omega arith)) (getD-sets-after (be16Bytes (udpChecksum d)) d 46 x 0 (omega arith))
 
 -- a computed checksum aside, each byte is handed out as it stands in the slot
 pub finish-byte : (e : Bool) (d : List ℕ) (x : ℕ) → (e ≡ true → (x < 46) ⊎ (48 ≤ x)) → getD (finish e d) x 0 ≡ getD d x 0

@@ -65,6 +65,10 @@ node-one (Extended x) (Extended y) e = ap Extended (ap (λ (n : Node). n .number
 
 -- ---- the gateways among the seats
 
+pub gates-are : (t : Table) → those present (t .gateways) ≡ gatesOf t
+unfolding gatesOf
+gates-are t = refl
+
 abbrev pub seat : Node → Node → Bool
 seat a g = present g && sameNode a g
 

@@ -3,7 +3,7 @@ ghost use mathlib.Core.Path.{_≡_};
 ghost use mathlib.Core.Bool.{_&&_};
 ghost use Prim.Native.Nat.{_-_};
 ghost use lib.Dec.{eqb, leb};
-ghost use Rattle.reassembly.specs.Slots.{nodeOf, sameNode, present, sameKey, freeSlot, opened, isKey, isOf};
+ghost use Rattle.reassembly.specs.Slots.{nodeOf, sameNode, present, sameKey, noKey, freeSlot, opened, isKey, isOf};
 use ieee802154::Address;
 
 // An address as two numbers: its kind (0 absent, 1 short, 2 extended) and its value, 0 where it is absent.
@@ -67,6 +67,18 @@ impl Node {
 }
 
 impl Key {
+    // The key of no datagram, where there is none.
+    pub fn none() -> Key
+        ensures { λ r. ⌜ r ≡ noKey ⌝ }
+    {
+        Key {
+            src: Node { kind: 0, number: 0 },
+            dst: Node { kind: 0, number: 0 },
+            size: 0,
+            tag: 0,
+        }
+    }
+
     pub fn same(self, b: Key) -> bool
         ensures { λ r. ⌜ r ≡ sameKey self b ⌝ }
     {
@@ -90,13 +102,9 @@ impl Slot {
     pub fn free() -> Slot
         ensures { λ r. ⌜ r ≡ freeSlot ⌝ }
     {
+        let key = Key::none();
         Slot {
-            key: Key {
-                src: Node { kind: 0, number: 0 },
-                dst: Node { kind: 0, number: 0 },
-                size: 0,
-                tag: 0,
-            },
+            key,
             since: 0,
             covered: [0u64; 4],
             starts: [0u64; 4],

@@ -3,42 +3,29 @@ use Prim.Native.Nat.{ℕ, _≤_}
 use native.Mathlib.Omega.{arith}
 use mathlib.Core.Path.{_≡_, refl, sym, ap, ap₂, _∙_}
 use mathlib.Core.Logic.{_⊎_, inl, inr}
-use mathlib.Core.Bool.{Bool, true, false, _||_}
+use mathlib.Core.Bool.{true, false}
 use mathlib.Core.List.{List}
 use lib.ListN.{length}
-use lib.Dec.{ltb}
-use borrow.Author.Tests.{ltb-false}
-use Rattle.octets.specs.Read.{Answer, is, refused, andThen, choose}
+use Rattle.octets.specs.Read.{Answer, is, refused, andThen}
 use Rattle.incoming.specs.Incoming.{arrival, Brought, datagram, payload}
 use Rattle.incoming.specs.Incoming as Incoming
 use Rattle.incoming.specs.declared.arrival.Arrival.{Arrival}
 use Rattle.incoming.proofs.Names.{Headed, part-header}
 use Rattle.incoming.proofs.Sized.{SizedBrought, payload-sized}
 use Rattle.reassembly.specs.Slots.{nodeOf, present, owner, isGate}
-use Rattle.reassembly.specs.Parts.{Part, Reply}
+use Rattle.reassembly.specs.Parts.{Part}
 use Rattle.reassembly.specs.Table.{Call, short, other, part, lentCall, step, At, after}
 use Rattle.reassembly.specs.declared.table.Table.{Table}
 use Rattle.reassembly.specs.declared.slot.Node.{Node}
 use Rattle.reassembly.specs.declared.slot.Key.{Key}
 use Rattle.reassembly.proofs.Tests.{by-test}
+use Rattle.reassembly.proofs.Lent.{not-other, lent-after, lent-part, lent-length}
 use Rattle.reassembly.proofs.Sized.{Sized, SizedCall, lent-sized}
 use Rattle.receiver.specs.Receive.{keyOf, welcome, admitted, brings, carries, frameCall, callOf}
 use Rattle.receiver.specs.Names.{named}
 
--- ---- calls of different kinds
+-- ---- a part that a call brings, and its time
 
-abbrev kindOf : Call → ℕ
-kindOf short = 0
-kindOf (other t a) = 1
-kindOf (part t p) = 2
-
-not-other : {X : Type 0} (t u : ℕ) (a : Reply (List ℕ)) (p : Part) → other t a ≡ part u p → X
-not-other t u a p e = let z : _≡_ {A = ℕ} 1 2 = ap kindOf e in absurd (omega arith)
-
-not-short : {X : Type 0} (u : ℕ) (p : Part) → short ≡ part u p → X
-not-short u p e = let z : _≡_ {A = ℕ} 0 2 = ap kindOf e in absurd (omega arith)
-
--- a part that a call brings, and its time
 abbrev timeIn : Call → ℕ
 timeIn short = 0
 timeIn (other t a) = t
@@ -129,29 +116,26 @@ frame-at gs ctx t s = go (admitted gs s)
 module _ (m o : List ℕ) (gs : List Node) (ctx : List ℕ) (t : ℕ) (s : List ℕ) where
   -- a call that is refused 7 takes no time; every other takes its own
   pub call-after : (n : ℕ) → (after n (callOf m o gs ctx t s) ≡ n) ⊎ (after n (callOf m o gs ctx t s) ≡ t)
-  unfolding callOf lentCall
-  call-after n = by-test (ltb (length m) 16384 || ltb (length o) 2047) (λ e. inl (rw e)) (λ e. inr (rw e (frame-after n gs ctx t s)))
+  unfolding callOf
+  call-after n = go (lent-after m o (frameCall gs ctx t s) n)
+    where
+      go : (after n (lentCall m o (frameCall gs ctx t s)) ≡ n) ⊎ (after n (lentCall m o (frameCall gs ctx t s)) ≡ after n (frameCall gs ctx t s)) → (after n (callOf m o gs ctx t s) ≡ n) ⊎ (after n (callOf m o gs ctx t s) ≡ t)
+      go (inl e) = inl e
+      go (inr e) = inr (e ∙ frame-after n gs ctx t s)
 
   pub call-part : (u : ℕ) (p : Part) → callOf m o gs ctx t s ≡ part u p → Comes gs t s u p
-  unfolding callOf lentCall
-  call-part u p e = by-test (ltb (length m) 16384 || ltb (length o) 2047)
-      (λ x. not-short u p (rw x at e))
-      (λ x. frame-part gs ctx t s u p (rw x at e))
+  unfolding callOf
+  call-part u p e = frame-part gs ctx t s u p (lent-part m o (frameCall gs ctx t s) u p e .0)
 
   -- a call that brings a part has room for every datagram
   pub call-room : (u : ℕ) (p : Part) → callOf m o gs ctx t s ≡ part u p → 2047 ≤ length o
-  unfolding callOf lentCall
-  call-room u p e = go (ltb (length m) 16384) (ltb (length o) 2047) refl e
-    where
-      go : (x y : Bool) → ltb (length o) 2047 ≡ y → choose (x || y) short (frameCall gs ctx t s) ≡ part u p → 2047 ≤ length o
-      go true y q e = not-short u p e
-      go false true q e = not-short u p e
-      go false false q e = ltb-false (length o) 2047 q
+  unfolding callOf
+  call-room u p e = lent-part m o (frameCall gs ctx t s) u p e .1
 
   -- only the length of the memory matters
   pub call-memory : (m′ : List ℕ) → length m′ ≡ length m → callOf m′ o gs ctx t s ≡ callOf m o gs ctx t s
-  unfolding callOf lentCall
-  call-memory m′ e = rw e
+  unfolding callOf
+  call-memory m′ e = lent-length m o (frameCall gs ctx t s) m′ e
 
 -- ---- how long a datagram is that is handed out
 brings-sized : (t : ℕ) (a : Arrival) (b : Answer Brought) → SizedBrought b → SizedCall (brings t a b)

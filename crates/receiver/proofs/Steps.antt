@@ -7,7 +7,6 @@ use mathlib.Core.Bool.{Bool, true, false}
 use mathlib.Core.Path.{_≡_, refl, sym, ap, ap₂, subst, _∙_}
 use lib.ListN.{length, take, drop, length-drop}
 use lib.Seq.{take-all, take-at}
-use borrow.Author.Tests.{le-leb}
 use Rattle.octets.specs.Read.{Answer, is, refused, andThen}
 use Rattle.octets.specs.Refusal.{numberOf}
 use Rattle.octets.specs.Write.{put}
@@ -19,7 +18,7 @@ use Rattle.incoming.specs.Incoming.{ofArrival, arrival, Brought, payloadIn, Bri
 use Rattle.incoming.specs.declared.arrival.Arrival.{Arrival}
 use Rattle.incoming.specs.declared.arrival.ArrivalAnswer.{ArrivalAnswer}
 use Rattle.incoming.specs.declared.payload.Payload.{Payload}
-use Rattle.incoming.proofs.Steps.{on-arrival, no-arrival, arrival-short}
+use Rattle.incoming.proofs.Steps.{on-arrival, no-arrival, arrival-short, in-room}
 use Rattle.sixlowpan.specs.declared.frag.Units.{Units}
 use Rattle.reassembly.specs.Slots.{nodeOf, present, isGate}
 use Rattle.reassembly.specs.Parts as Parts
@@ -71,8 +70,8 @@ module _ (gs : List Node) (ctx s : List ℕ) (y : ArrivalAnswer) (p : ofArrival 
 
   module _ (a : Arrival) (q : y ≡ ArrivalAnswer.Is a) (r : Payload) (room l : List ℕ) (big : 175 ≤ length room) (b : Brings r room l s (payloadIn room ctx a s)) (t : ℕ) where
     frame-brings : {x : Answer Brought} → x ≡ payloadIn room ctx a s → brings t a x ≡ frameCall gs ctx t s
-    unfolding frameCall payloadIn
-    frame-brings e = ap (λ z. brings t a z) e ∙ rw (le-leb 175 (length room) big) (ap (λ z. carries t ctx s z) (sym (ap ofArrival q) ∙ p))
+    unfolding frameCall
+    frame-brings e = ap (λ z. brings t a z) (e ∙ in-room room ctx a s big) ∙ ap (λ z. carries t ctx s z) (sym (ap ofArrival q) ∙ p)
 
     pub frame-whole : (n : ℕ) → r ≡ Payload.Whole n → other t (Parts.out (take n l)) ≡ frameCall gs ctx t s
     frame-whole n e = frame-brings (rw e at (b .answer))

@@ -7,7 +7,7 @@ ghost use mathlib.Core.Path.{_≡_};
 ghost use Prim.Native.Nat.{_≤_, min};
 ghost use Rattle.incoming.specs.Incoming.{ofArrival};
 ghost use Rattle.reassembly.specs.Lists.{those};
-ghost use Rattle.reassembly.specs.Slots.{noKey, present, gatesOf};
+ghost use Rattle.reassembly.specs.Slots.{present, gatesOf};
 ghost use Rattle.reassembly.specs.Table.{step, lentCall, Gives};
 ghost use Rattle.receiver.specs.Receive.{keyOf, admitted, callOf};
 ghost use Rattle.receiver.specs.Carried.{carriedCall, Carries, nothing, whole, part};
@@ -79,22 +79,11 @@ fn key_of(a: Arrival, size: u16, tag: u16) -> Key
     }
 }
 
-fn no_key() -> Key
-    ensures { λ r. ⌜ r ≡ noKey ⌝ }
-{
-    Key {
-        src: Node { kind: 0, number: 0 },
-        dst: Node { kind: 0, number: 0 },
-        size: 0,
-        tag: 0,
-    }
-}
-
 impl Carried {
     fn refused(e: Refusal, bytes: [u8; 176]) -> Carried
         ensures { λ r. ⌜ r ≡ nothing e bytes ⌝ }
     {
-        let key = no_key();
+        let key = Key::none();
         Carried {
             what: What::Refused(e),
             key,
@@ -108,7 +97,7 @@ impl Carried {
     fn whole(len: usize, bytes: [u8; 176]) -> Carried
         ensures { λ r. ⌜ r ≡ whole len bytes ⌝ }
     {
-        let key = no_key();
+        let key = Key::none();
         Carried {
             what: What::Whole,
             key,

@@ -1,5 +1,6 @@
-use Rattle.reassembly.specs.Slots.{gatesOf}
-use Rattle.receiver.specs.Receive.{callOf}
+use mathlib.Core.Path.{ap, _∙_}
+use Rattle.reassembly.proofs.Slots.{gates-are}
+use Rattle.receiver.specs.Receive.{frameCall, callOf}
 use Rattle.receiver.proofs.Steps.{gives-as}
 use borrow.Author.Needs.{needs}
 use Rattle.receiver.proofs.receive.Statement.{statement}
@@ -18,10 +19,11 @@ same-length-2 : tie.Need-same-length-2
 same-length-2 c = search needs
 
 returns : tie.Need-returns
-unfolding gatesOf callOf
+unfolding callOf
 returns c =
     let a = c .before .before .before .before .before .before .before .before .before .before .before .before .before .args in
-    gives-as (a .table) (a .mem .now) (a .out .now) (c .before .before .before .before .before .before .before .read .ensures .call (a .time)) (c .before .before .before .before .settle .ensures)
+    let carried = c .before .before .before .before .before .before .before .read .ensures .call (a .time) ∙ ap (λ g. frameCall g (a .contexts .now) (a .time) (a .frame .now)) (gates-are (a .table)) in
+    gives-as (a .table) (a .mem .now) (a .out .now) carried (c .before .before .before .before .settle .ensures)
 
 pub receive-spec : {M : Type 1} → statement M
 receive-spec = tie.close (tie.spec read-requires settle-requires same-length same-length-2 returns)
