@@ -383,7 +383,7 @@ fn key(f: &mut Fields, out: &mut Vec<u8>) -> Option<()> {
 }
 
 /// The EID that an identifier is written as; 5 stands for both reserved ones.
-fn ext_number(id: ExtHeaderId) -> usize {
+pub fn ext_number(id: ExtHeaderId) -> usize {
     match id {
         ExtHeaderId::HopByHopHeader => 0,
         ExtHeaderId::RoutingHeader => 1,

@@ -6,6 +6,8 @@ mod answer;
 mod compare;
 mod generate;
 mod list;
+#[cfg(native)]
+mod native;
 mod rules;
 mod sink;
 mod speed;
@@ -20,6 +22,8 @@ pub fn main() {
         ["answer01"] => answer::run(true),
         ["gen", kind, seed, count] => generate::run(kind, seed, count),
         ["speed", program] => speed::run(program),
+        #[cfg(native)]
+        ["native", turns] => native::run(turns),
         ["list"] => list::run(),
         ["compare", lines, ours, theirs] => compare::run(lines, ours, theirs),
         _ => {

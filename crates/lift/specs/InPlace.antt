@@ -1,4 +1,5 @@
--- A call on a table that is changed in place, in its three turns: the time is taken, the frame is read, its part goes to a slot.
+-- A call on a table that is changed in place, in the order of the scope document, "Expansion and the slot table": 7, 8 and the time; then what the
+-- frame is; then its part goes to a slot. proofs/InPlace.antt shows that these three turns are reassembly's `step`.
 use Prim.Native.Nat.{ℕ, _≤_}
 use mathlib.Core.Path.{_≡_}
 use mathlib.Core.Bool.{Bool, true, false, _||_}

@@ -1,4 +1,5 @@
--- What a frame carries, by value: the call that it makes at a time.
+-- What a frame carries to the slot table, by value (the scope document, "Expansion and the slot table": the checks up to 10): the call that it
+-- makes at a time.
 use Prim.Native.Nat.{ℕ}
 use mathlib.Core.Path.{_≡_}
 use mathlib.Core.Bool.{Bool, false}
