@@ -48,6 +48,11 @@ def datagram(src, dst, next_header, payload, hop=64, traffic_class=0, flow=0):
     return head + src + dst + payload
 
 
+def plain_sum(data):
+    """The sum of 16-bit words, the last one filled up with a zero, carries and all."""
+    return sum(int.from_bytes(data[i:i + 2].ljust(2, b"\0"), "big") for i in range(0, len(data), 2))
+
+
 def udp_checksum(src, dst, udp):
     """RFC 768 and RFC 8200 8.1: a number is its own sum of digits modulo the base less one, so the one's complement
     sum of 16-bit words is the remainder by 65,535."""

@@ -71,10 +71,13 @@ def packet(rng, world, src, dst, size, udp=None):
         checksum = None
         if chance(rng, 0.15):
             checksum = rng.choice((0, 0xffff, rng.randrange(0x10000)))
-        elif size >= 50 and chance(rng, 0.1):
-            # Data that makes the sum come out 0, so that ffff must stand for it.
+        elif size >= 50 and chance(rng, 0.15):
+            # Data that makes the sum come out 0, so that ffff must stand for it; or the plain sum end in ffff, so that its carry
+            # carries once more.
             plain = f.udp_datagram(from_, to, 61616, 61617, b"\0\0" + data[2:], **others)
             word = int.from_bytes(plain[46:48], "big")
+            if chance(rng, 0.4):
+                word = (0xffff - f.plain_sum(plain[8:46] + plain[48:]) - (size - 40) - 17) % 0x10000
             return f.udp_datagram(from_, to, 61616, 61617, word.to_bytes(2, "big") + data[2:], **others)
         return f.udp_datagram(from_, to, port(rng), port(rng), data, checksum, **others)
     return f.datagram(from_, to, rng.choice((58, 17, 59, 6, 0, 43)), rng.randbytes(size - 40), **others)
