@@ -45,7 +45,7 @@ not-less n j k f g h =
     let more : 1 < k = omega (arith, f .0) in
     lt-irrefl n (lt-of-lt-of-le (f .1) (le-trans up (g .2 more)))
 
-fewest-one : (n j k : ℕ) → Fewest 10 1 n j → Fewest 10 1 n k → j ≡ k
+pub fewest-one : (n j k : ℕ) → Fewest 10 1 n j → Fewest 10 1 n k → j ≡ k
 fewest-one n j k f g = omega (arith, not-less n j k f g, not-less n k j g f)
 
 small-go : (t : Bool) (k w : ℕ) → w ≤ suc k → choose t 1 (suc w) ≤ suc (suc k)

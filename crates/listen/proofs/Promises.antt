@@ -5,7 +5,7 @@ use native.Mathlib.Nat.{add-zero}
 use native.Mathlib.Omega.{arith}
 use mathlib.Core.Bool.{Bool, true, false}
 use mathlib.Core.List.{List, [], _∷_, _++_, append-assoc}
-use mathlib.Core.Path.{_≡_, refl, sym, ap, ap₂, _∙_}
+use mathlib.Core.Path.{_≡_, refl, sym, ap, ap₂, subst, _∙_}
 use lib.ListN.{length, take, drop, length-append, length-drop}
 use lib.Seq.{take-append-le, drop-append-le}
 use borrow.Author.Tests.{le-leb}
@@ -13,13 +13,15 @@ use Rattle.octets.specs.Read.{choose}
 use Rattle.octets.specs.Write.{put}
 use Rattle.octets.proofs.Puts.{put-append}
 use Rattle.expand.proofs.CopyLaws.{length-put}
-use Rattle.text.specs.Text.{Printed}
+use Rattle.io.specs.Digits.{digits}
+use Rattle.text.specs.Text.{Printed, Decimal}
 use Rattle.listen.specs.Lines.{Page, putLine, putLines}
 use Rattle.listen.specs.Heard.{Listener, Told, hearBlock, pieces, blocksOf, joined, thenHeard, hearBlocks, hearAll, lastLine, beginning, heard, Hears}
 use Rattle.listen.specs.declared.ear.Ear.{Ear}
 use Rattle.listen.specs.declared.ear.Heard.{Heard}
 use Rattle.listen.proofs.Hearing.{page}
 use Rattle.listen.proofs.Blocks.{cut}
+use Rattle.listen.proofs.Decimals.{fewest-one}
 
 -- ---- any two answers are equal, and so are the lent bytes after them
 pub hears-one : (q : Told) (was : List ℕ) (at : ℕ) (y z : Heard) (m m′ o o′ x x′ : List ℕ) → Hears y m o was x at q → Hears z m′ o′ was x′ at q → (y ≡ z) × (m ≡ m′) × (o ≡ o′) × (x ≡ x′)
@@ -38,6 +40,12 @@ hears-one q was at y z m m′ o o′ x x′ A B =
 -- as for a line
 pub printed-one : (at : ℕ) (t was : List ℕ) (x x′ : List ℕ) (n n′ : ℕ) → Printed at t was x n → Printed at t was x′ n′ → (x ≡ x′) × (n ≡ n′)
 printed-one at t was x x′ n n′ A B = (A .filled ∙ sym (B .filled), A .behind ∙ sym (B .behind))
+
+-- and for a number in decimal
+pub decimal-one : (at k : ℕ) (was : List ℕ) (x x′ : List ℕ) (n n′ : ℕ) → Decimal at k was x n → Decimal at k was x′ n′ → (x ≡ x′) × (n ≡ n′)
+decimal-one at k was x x′ n n′ A B =
+    let e = fewest-one k (A .count) (B .count) (A .fewest) (B .fewest) in
+    printed-one at (digits 10 (B .count) k) was x x′ n n′ (subst (λ j. Printed at (digits 10 j k) was x n) e (A .printed)) (B .printed)
 
 -- ---- where the room holds them, lines stand one behind the other
 fitted : (t room : List ℕ) (at : ℕ) → at + length t ≤ length room → putLine t (page room at) ≡ page (put at t room) (at + length t)

@@ -12,13 +12,15 @@ use Rattle.octets.proofs.Unique.{number-one}
 use Rattle.ieee802154.specs.declared.addr.Address.{Address}
 use Rattle.reassembly.specs.Lists.{count, firstAt}
 use Rattle.reassembly.specs.Slots.{opened, isFree, expired, gatesOf, isGate, held, free, mayOpen, opening}
-use Rattle.reassembly.specs.Parts.{Part, Reply, kept, out, refused, told, ofOutcome}
-use Rattle.reassembly.specs.Table.{Call, part, State, Result, slotsAt, step, run, opensIn, endsIn, takenSince, Gives}
+use Rattle.reassembly.specs.Parts.{Part, Reply, kept, out, refused, told, ofOutcome, Put}
+use Rattle.reassembly.specs.Table.{Call, part, State, Result, slotsAt, step, run, opensIn, endsIn, takenSince, Lands, Gives}
 use Rattle.reassembly.specs.Cover.{In, Has, MadeOf}
 use Rattle.reassembly.specs.Fresh.{Begins, ofListed, Gateways, begun}
 use Rattle.reassembly.specs.declared.slot.Node.{Node}
 use Rattle.reassembly.specs.declared.slot.Key.{Key}
+use Rattle.reassembly.specs.declared.slot.Slot.{Slot}
 use Rattle.reassembly.specs.declared.part.Outcome.{Outcome}
+use Rattle.reassembly.specs.declared.part.InSlot.{InSlot}
 use Rattle.reassembly.specs.declared.table.Table.{Table}
 use Rattle.reassembly.specs.declared.table.Received.{Received}
 use Rattle.reassembly.specs.declared.table.Listed.{Listed}
@@ -107,6 +109,13 @@ received-one q o₀ y z m m′ o o′ A B =
     let a : y .answer ≡ z .answer = outcome-one (y .answer) (z .answer) (A .answer ∙ sym (B .answer)) in
     let t : y .table ≡ z .table = A .table ∙ sym (B .table) in
     (ap₂ (λ (x : Outcome) (u : Table). record { answer = x; table = u }) a t, A .memory ∙ sym (B .memory), A .output ∙ sym (B .output))
+
+-- as for a part to one slot
+pub lands-one : (q : Put) (i : ℕ) (m₀ o₀ : List ℕ) (y z : InSlot) (m m′ o o′ : List ℕ) → Lands y i m₀ m o₀ o q → Lands z i m₀ m′ o₀ o′ q → (y ≡ z) × (m ≡ m′) × (o ≡ o′)
+lands-one q i m₀ o₀ y z m m′ o o′ A B =
+    let a : y .outcome ≡ z .outcome = outcome-one (y .outcome) (z .outcome) (A .answer ∙ sym (B .answer)) in
+    let t : y .slot ≡ z .slot = A .slot ∙ sym (B .slot) in
+    (ap₂ (λ (x : Outcome) (u : Slot). record { outcome = x; slot = u }) a t, A .memory ∙ sym (B .memory), A .output ∙ sym (B .output))
 
 pub begun-one : (n : ℕ) (l : List Address) (y z : Listed) (x u : Table) → Begins y x n l → Begins z u n l → (y ≡ z) × (x ≡ u)
 begun-one n l y z x u A B = (listed-one y z (A .answer ∙ sym (B .answer)), A .table ∙ sym (B .table))

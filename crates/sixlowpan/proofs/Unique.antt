@@ -5,6 +5,7 @@ use Rattle.octets.proofs.Unique.{Injective, back, one, refusal-back}
 use Rattle.sixlowpan.specs.Dispatch.{ofDispatch}
 use Rattle.sixlowpan.specs.Frag
 use Rattle.sixlowpan.specs.Key.{ofKey}
+use Rattle.sixlowpan.specs.Next.{ofNext}
 use Rattle.sixlowpan.specs.Nhc.{ofNhc}
 use Rattle.sixlowpan.specs.NhcExt.{ofExt}
 use Rattle.sixlowpan.specs.NhcUdp.{ofUdp}
@@ -12,11 +13,20 @@ use Rattle.sixlowpan.specs.declared.dispatch.DispatchAnswer.{DispatchAns
 use Rattle.sixlowpan.specs.declared.frag.Parsed as FragParsed
 use Rattle.sixlowpan.specs.declared.frag.Repr as FragRepr
 use Rattle.sixlowpan.specs.declared.frag.KeyAnswer.{KeyAnswer}
+use Rattle.sixlowpan.specs.declared.next.NextRead.{NextRead}
+use Rattle.sixlowpan.specs.declared.protocol.NextHeader.{NextHeader}
 use Rattle.sixlowpan.specs.declared.nhc.NhcAnswer.{NhcAnswer}
 use Rattle.sixlowpan.specs.declared.nhc.ExtParsed.{ExtParsed}
 use Rattle.sixlowpan.specs.declared.nhc.ExtHeaderRepr.{ExtHeaderRepr}
 use Rattle.sixlowpan.specs.declared.nhc.UdpParsed.{UdpParsed}
 use Rattle.sixlowpan.specs.declared.nhc.UdpNhcRepr.{UdpNhcRepr}
+
+pub next-one : Injective ofNext
+next-one = one ofNext (λ (p : Placed NextHeader). NextRead.Field (p .value) (record { at = p .next })) NextRead.Refused inv
+  where
+    inv : (y : NextRead) → back (λ (p : Placed NextHeader). NextRead.Field (p .value) (record { at = p .next })) NextRead.Refused (ofNext y) ≡ y
+    inv (NextRead.Field x c) = refl
+    inv (NextRead.Refused e) = ap NextRead.Refused (refusal-back e)
 
 pub nhc-one : Injective ofNhc
 nhc-one = one ofNhc NhcAnswer.Is NhcAnswer.Refused inv
