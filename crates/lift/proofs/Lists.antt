@@ -5,6 +5,7 @@ use mathlib.Core.Path.{_≡_, refl, sym, ap, _∙_}
 use mathlib.Core.Bool.{true, false}
 use mathlib.Core.List.{List, [], _∷_, map}
 use lib.ListN.{length, getD, take}
+use lib.Seq.{take-length}
 use lib.Dec.{eqb}
 use Rattle.octets.specs.Read.{choose}
 use Rattle.octets.specs.Refusal.{numberOf}
@@ -12,11 +13,11 @@ use Rattle.octets.specs.declared.refusal.Refusal.{Refusal}
 use Rattle.ieee802154.specs.declared.addr.Address.{Address}
 use Rattle.ieee802154.specs.declared.addr.Address.the-variants.{Absent}
 use Rattle.reassembly.specs.Slots.{nodeOf}
-use Rattle.reassembly.specs.Fresh.{nodes, refusedList, fresh, Begins}
+use Rattle.reassembly.specs.Fresh.{nodes, refusedList, fresh, Gateways, Begins}
 use Rattle.reassembly.specs.declared.table.Table.{Table}
 use Rattle.reassembly.specs.declared.table.Listed.{Listed}
-use Rattle.reassembly.proofs.Tests.{by-order}
-use Rattle.reassembly.proofs.Fresh.{nodes-are, refuses-long, not-long, when-fit, when-accepted, when-refused}
+use Rattle.reassembly.proofs.Tests.{by-test, by-order}
+use Rattle.reassembly.proofs.Fresh.{accepted, nodes-are, refuses-long, not-long, when-fit, when-accepted, when-refused}
 use Rattle.lift.specs.Face.{addressOf, addresses, addressAt, gateways, refusesList, begun, tableBegun}
 
 -- ---- two numbers each
@@ -81,3 +82,17 @@ module _ (l : List ℕ) (four-of : List Address) (n : ℕ) (are : four-of ≡ ad
         let h = when-refused n four-of y x b r e in
         let k : refusesList l ≡ true = sym same-refusal ∙ h .0 in
         (rw k (q ∙ h .1), λ t. rw (k, q ∙ h .1) refl)
+
+-- ---- a list that is accepted
+fit-list : (l : List ℕ) → refusesList l ≡ false → Gateways (gateways l)
+unfolding refusesList gateways
+fit-list l k =
+    let a = addresses l in
+    let e : nodes (length a) a ≡ map nodeOf a = nodes-are (length a) a ∙ ap (map nodeOf) (take-length a) in
+    rw e at (accepted (length a) a (omega arith) (rw e k))
+
+pub begun-fresh : (l : List ℕ) → begun l ≡ 0 → ((t : Table) → tableBegun t l ≡ fresh (gateways l)) × Gateways (gateways l)
+unfolding begun tableBegun
+begun-fresh l e = by-test (refusesList l)
+    (λ k. let z : _≡_ {A = ℕ} 14 0 = rw k at e in absurd (omega (arith, z)))
+    (λ k. (λ t. rw k refl, fit-list l k))

@@ -26,10 +26,21 @@ use Rattle.promises.specs.Runs as Calls
 use Rattle.promises.specs.Frames.{Turn, left, callIn, Ran, endOf, openings, endings, Forward, meant, Brings, partsOf, takenOf, Supposed, Concluded, HandedOut}
 use Rattle.reassembly.proofs.Fits.{fit}
 use Rattle.promises.proofs.Engine.{In-left}
+use Rattle.receiver.specs.Names.{named}
 use Rattle.receiver.proofs.Names.{call-after, call-part, call-room, call-memory}
 use Rattle.promises.proofs.Runs as Runs
 
 -- ---- a run of `receive` is a run of calls
+
+-- the calls leave table and memory as the contract says, whatever form the answer has: runs of the library go so too (proofs/Library.antt)
+unfoldable pub Went : State → List Turn → Type 0
+Went σ [] = Unit {0}
+Went σ (h ∷ hs) = (h .received .table ≡ (step σ (callIn σ h)) .state .table) × (h .memory ≡ (step σ (callIn σ h)) .state .mem) × Went (left h) hs
+
+pub ran-went : (hs : List Turn) (σ : State) → Ran σ hs → Went σ hs
+unfolding Ran Went
+ran-went [] σ R = tt
+ran-went (h ∷ hs) σ R = (R .0 .table, R .0 .memory, ran-went hs (left h) (R .1))
 
 -- the gateways are gs, and the memory is as long as m
 pub record Fixed (gs : List Node) (m : List ℕ) (σ : State) : Type 0 where
@@ -52,29 +63,21 @@ module _ (gs : List Node) (m : List ℕ) where
   call-is σ h F = rw (F .gates) (call-memory m (h .before) gs (h .contexts) (h .time) (h .frame) (σ .mem) (F .size))
 
   -- the first call of a run, as a call that comes to σ
-  module _ (σ : State) (h : Turn) (hs : List Turn) (F : Fixed gs m σ) (R : Ran σ (h ∷ hs)) where
+  module _ (σ : State) (h : Turn) (hs : List Turn) (F : Fixed gs m σ) (L : Went σ (h ∷ hs)) where
     left-is : left h ≡ next σ (meant gs m h)
-    unfolding Ran next
+    unfolding Went next
     left-is =
         let c = call-is σ h F in
-        let a : h .received .table ≡ (step σ (meant gs m h)) .state .table = rw c at (R .0 .table) in
-        let b : h .memory ≡ (step σ (meant gs m h)) .state .mem = rw c at (R .0 .memory) in
+        let a : h .received .table ≡ (step σ (meant gs m h)) .state .table = rw c at (L .0) in
+        let b : h .memory ≡ (step σ (meant gs m h)) .state .mem = rw c at (L .1) in
         λ i. record { table = a i; mem = b i }
 
     left-fixed : Fixed gs m (left h)
     left-fixed = rw left-is (fixed-next σ (meant gs m h) F)
 
-    left-ran : Ran (left h) hs
-    unfolding Ran
-    left-ran = R .1
-
-    answer-is : ofOutcome (h .received .answer) ≡ told ((step σ (meant gs m h)) .reply)
-    unfolding Ran
-    answer-is = rw (call-is σ h F) at (R .0 .answer)
-
-    output-is : h .output ≡ outputAfter ((step σ (meant gs m h)) .reply) (h .before)
-    unfolding Ran
-    output-is = rw (call-is σ h F) at (R .0 .output)
+    left-went : Went (left h) hs
+    unfolding Went
+    left-went = L .2
 
   pub ran-left : (hs js : List Turn) (σ : State) → Ran σ (hs ++ js) → Ran σ hs
   unfolding Ran
@@ -86,28 +89,44 @@ module _ (gs : List Node) (m : List ℕ) where
   ran-right [] js σ R = R
   ran-right (h ∷ hs) js σ R = ran-right hs js (left h) (R .1)
 
-  pub end-is : (hs : List Turn) (σ : State) → Fixed gs m σ → Ran σ hs → endOf σ hs ≡ run σ (map (meant gs m) hs)
+  went-left : (hs js : List Turn) (σ : State) → Went σ (hs ++ js) → Went σ hs
+  unfolding Went
+  went-left [] js σ L = tt
+  went-left (h ∷ hs) js σ L = (L .0, L .1, went-left hs js (left h) (L .2))
+
+  went-right : (hs js : List Turn) (σ : State) → Went σ (hs ++ js) → Went (endOf σ hs) js
+  unfolding Went endOf
+  went-right [] js σ L = L
+  went-right (h ∷ hs) js σ L = went-right hs js (left h) (L .2)
+
+  went-is : (hs : List Turn) (σ : State) → Fixed gs m σ → Went σ hs → endOf σ hs ≡ run σ (map (meant gs m) hs)
   unfolding endOf run
-  end-is [] σ F R = refl
-  end-is (h ∷ hs) σ F R =
-      end-is hs (left h) (left-fixed σ h hs F R) (left-ran σ h hs F R) ∙ ap (λ (z : State). run z (map (meant gs m) hs)) (left-is σ h hs F R)
+  went-is [] σ F L = refl
+  went-is (h ∷ hs) σ F L =
+      went-is hs (left h) (left-fixed σ h hs F L) (left-went σ h hs F L) ∙ ap (λ (z : State). run z (map (meant gs m) hs)) (left-is σ h hs F L)
+
+  went-fixed : (hs : List Turn) (σ : State) → Fixed gs m σ → Went σ hs → Fixed gs m (endOf σ hs)
+  unfolding endOf
+  went-fixed [] σ F L = F
+  went-fixed (h ∷ hs) σ F L = went-fixed hs (left h) (left-fixed σ h hs F L) (left-went σ h hs F L)
+
+  pub end-is : (hs : List Turn) (σ : State) → Fixed gs m σ → Ran σ hs → endOf σ hs ≡ run σ (map (meant gs m) hs)
+  end-is hs σ F R = went-is hs σ F (ran-went hs σ R)
 
   pub end-fixed : (hs : List Turn) (σ : State) → Fixed gs m σ → Ran σ hs → Fixed gs m (endOf σ hs)
-  unfolding endOf
-  end-fixed [] σ F R = F
-  end-fixed (h ∷ hs) σ F R = end-fixed hs (left h) (left-fixed σ h hs F R) (left-ran σ h hs F R)
+  end-fixed hs σ F R = went-fixed hs σ F (ran-went hs σ R)
 
-  openings-are : (hs : List Turn) (σ : State) → Fixed gs m σ → Ran σ hs → openings σ hs ≡ opensIn σ (map (meant gs m) hs)
+  openings-are : (hs : List Turn) (σ : State) → Fixed gs m σ → Went σ hs → openings σ hs ≡ opensIn σ (map (meant gs m) hs)
   unfolding openings opensIn
-  openings-are [] σ F R = refl
-  openings-are (h ∷ hs) σ F R =
-      rw (call-is σ h F, openings-are hs (left h) (left-fixed σ h hs F R) (left-ran σ h hs F R), left-is σ h hs F R)
+  openings-are [] σ F L = refl
+  openings-are (h ∷ hs) σ F L =
+      rw (call-is σ h F, openings-are hs (left h) (left-fixed σ h hs F L) (left-went σ h hs F L), left-is σ h hs F L)
 
-  endings-are : (hs : List Turn) (σ : State) → Fixed gs m σ → Ran σ hs → endings σ hs ≡ endsIn σ (map (meant gs m) hs)
+  endings-are : (hs : List Turn) (σ : State) → Fixed gs m σ → Went σ hs → endings σ hs ≡ endsIn σ (map (meant gs m) hs)
   unfolding endings endsIn
-  endings-are [] σ F R = refl
-  endings-are (h ∷ hs) σ F R =
-      rw (call-is σ h F, endings-are hs (left h) (left-fixed σ h hs F R) (left-ran σ h hs F R), left-is σ h hs F R)
+  endings-are [] σ F L = refl
+  endings-are (h ∷ hs) σ F L =
+      rw (call-is σ h F, endings-are hs (left h) (left-fixed σ h hs F L) (left-went σ h hs F L), left-is σ h hs F L)
 
   -- a clock that goes forward over all the calls does so over those that take their time
   forward-is : (hs : List Turn) (n k : ℕ) → k ≤ n → Forward n hs → Calls.Forward k (map (meant gs m) hs)
@@ -159,30 +178,41 @@ module _ (gs : List Node) (m : List ℕ) (k : Key) where
       go (inl e) = absurd (nc (rw (nothing-new e) at C))
       go (inr w) = w
 
--- ---- what a reply says of the answer and the output
+-- ---- what the calls of demand 3 reply, whatever form the answer has
 
-module _ (gs : List Node) (m : List ℕ) (σ : State) (h : Turn) (hs : List Turn) (F : Fixed gs m σ) (R : Ran σ (h ∷ hs)) where
-  kept-so : (step σ (meant gs m h)) .reply ≡ kept → (h .received .answer ≡ Outcome.Kept) × (h .output ≡ h .before)
-  kept-so e = (
-    outcome-one (h .received .answer) Outcome.Kept (answer-is gs m σ h hs F R ∙ ap told e),
-    output-is gs m σ h hs F R ∙ ap (λ (z : Reply (List ℕ)). outputAfter z (h .before)) e,
-  )
+-- each call for k in a run from σ replies that its part is kept
+unfoldable pub KeptIn : Key → State → List Turn → Type 0
+KeptIn k σ [] = Unit {0}
+KeptIn k σ (h ∷ hs) = (named (h .frame) ≡ is k → (step σ (callIn σ h)) .reply ≡ kept) × KeptIn k (left h) hs
 
-  out-so : (d : List ℕ) → (step σ (meant gs m h)) .reply ≡ out d → length d ≤ length (h .before)
-      → (h .received .answer ≡ Outcome.Out (length d)) × (h .output ≡ d ++ drop (length d) (h .before))
-  out-so d e l = (
-    outcome-one (h .received .answer) (Outcome.Out (length d)) (answer-is gs m σ h hs F R ∙ ap told e),
-    output-is gs m σ h hs F R ∙ ap (λ (z : Reply (List ℕ)). outputAfter z (h .before)) e ∙ put-front d (h .before) l,
-  )
+-- none before it, and the covering call hands out d, for which the output has room
+pub record Replies (k : Key) (d : List ℕ) (σ : State) (mid : List Turn) (c : Turn) : Type 0 where
+  pub none-before : KeptIn k σ mid
+  pub exactly : (step (endOf σ mid) (callIn (endOf σ mid) c)) .reply ≡ out d
+  pub room : length d ≤ length (c .before)
 
--- each call that brings a part is kept
-all-kept : (gs : List Node) (m : List ℕ) (k : Key) (hs : List Turn) (σ : State) → Fixed gs m σ → Ran σ hs → AllKept k σ (map (meant gs m) hs)
-    → (h : Turn) → In h hs → (p : Part) → comes k (meant gs m h) ≡ p ∷ [] → (h .received .answer ≡ Outcome.Kept) × (h .output ≡ h .before)
-unfolding AllKept
-all-kept gs m k [] σ F R A h i p e = absurd i
-all-kept gs m k (x ∷ hs) σ F R A h (inl z) p e = rw z (kept-so gs m σ x hs F R (A .0 p (rw z at e)))
-all-kept gs m k (x ∷ hs) σ F R A h (inr i) p e =
-    all-kept gs m k hs (left x) (left-fixed gs m σ x hs F R) (left-ran gs m σ x hs F R) (rw (left-is gs m σ x hs F R) (A .1)) h i p e
+kept-in : (gs : List Node) (m : List ℕ) (k : Key) (hs : List Turn) (σ : State) → Fixed gs m σ → Went σ hs → AllKept k σ (map (meant gs m) hs)
+    → ((h : Turn) → In h hs → named (h .frame) ≡ is k → (p : Part) × (comes k (meant gs m h) ≡ p ∷ [])) → KeptIn k σ hs
+unfolding AllKept KeptIn
+kept-in gs m k [] σ F L A B = tt
+kept-in gs m k (h ∷ hs) σ F L A B = (
+  λ n. let w = B h (inl refl) n in rw (call-is gs m σ h F) (A .0 (w .0) (w .1)),
+  kept-in gs m k hs (left h) (left-fixed gs m σ h hs F L) (left-went gs m σ h hs F L) (rw (left-is gs m σ h hs F L) (A .1)) (λ x i. B x (inr i)),
+)
+
+-- what `receive` answers then, and the output
+kept-so : (k : Key) (hs : List Turn) (σ : State) → Ran σ hs → KeptIn k σ hs
+    → (h : Turn) → In h hs → named (h .frame) ≡ is k → (h .received .answer ≡ Outcome.Kept) × (h .output ≡ h .before)
+unfolding Ran KeptIn
+kept-so k [] σ R A h i n = absurd i
+kept-so k (x ∷ hs) σ R A h (inl z) n =
+    let e = A .0 (rw z at n) in
+    rw z (outcome-one (x .received .answer) Outcome.Kept (R .0 .answer ∙ ap told e), R .0 .output ∙ ap (λ (z : Reply (List ℕ)). outputAfter z (x .before)) e)
+kept-so k (x ∷ hs) σ R A h (inr i) n = kept-so k hs (left x) (R .1) (A .1) h i n
+
+-- a datagram that is handed out stands at the output's start
+pub out-front : (d b o : List ℕ) (r : Reply (List ℕ)) → o ≡ outputAfter r b → r ≡ out d → length d ≤ length b → o ≡ d ++ drop (length d) b
+out-front d b o r a e l = a ∙ ap (λ (z : Reply (List ℕ)). outputAfter z b) e ∙ put-front d b l
 
 -- ---- the main theorem
 
@@ -269,126 +299,151 @@ module _ (gs : List Node) (m : List ℕ) (k : Key) (d : List ℕ) (C : Cutting k
   unfolding calls
   as-calls z = (q, q-brought, Runs.demand-3 gs m k d C (calls past) (calls mid) (c .time) q supposed z)
 
-  module _ (R : Ran (begun gs m) (past ++ (mid ++ (c ∷ [])))) where
-    -- the table and the memory when the earliest part comes, and when the covering call does
-    abbrev σ₁ : State
-    σ₁ = endOf (begun gs m) past
+  fits-output : length d ≤ length (c .before)
+  fits-output =
+      let B = comes-brought k (meant gs m c) q q-comes in
+      let f = fit q (B .fit) in
+      let z : q .key .size ≡ k .size = ap (λ (x : Key). x .size) (B .key) in
+      omega (arith, C .sized, f .small, call-room m (c .before) gs (c .contexts) (c .time) (c .frame) (c .time) q q-brought)
 
-    abbrev σ₂ : State
-    σ₂ = endOf (endOf (begun gs m) past) mid
+  -- the table and the memory when the earliest part comes, and when the covering call does
+  abbrev σ₁ : State
+  σ₁ = endOf (begun gs m) past
 
+  abbrev σ₂ : State
+  σ₂ = endOf (endOf (begun gs m) past) mid
+
+  module _ (L : Went (begun gs m) (past ++ (mid ++ (c ∷ [])))) where
     fixed₀ : Fixed gs m (begun gs m)
     fixed₀ = fixed-begun gs m (H .gateways) (H .enough)
 
-    ran₀ : Ran (begun gs m) past
-    ran₀ = ran-left gs m past (mid ++ (c ∷ [])) (begun gs m) R
+    went₀ : Went (begun gs m) past
+    went₀ = went-left gs m past (mid ++ (c ∷ [])) (begun gs m) L
 
     fixed₁ : Fixed gs m σ₁
-    fixed₁ = end-fixed gs m past (begun gs m) fixed₀ ran₀
-
-    ran₁ : Ran σ₁ (mid ++ (c ∷ []))
-    ran₁ = ran-right gs m past (mid ++ (c ∷ [])) (begun gs m) R
+    fixed₁ = went-fixed gs m past (begun gs m) fixed₀ went₀
 
     σ₁-is : σ₁ ≡ run (begun gs m) (calls past)
     unfolding calls
-    σ₁-is = end-is gs m past (begun gs m) fixed₀ ran₀
+    σ₁-is = went-is gs m past (begun gs m) fixed₀ went₀
 
-    ran-mid : Ran σ₁ mid
-    ran-mid = ran-left gs m mid (c ∷ []) σ₁ ran₁
+    went₁ : Went σ₁ mid
+    went₁ = went-left gs m mid (c ∷ []) σ₁ (went-right gs m past (mid ++ (c ∷ [])) (begun gs m) L)
 
     fixed₂ : Fixed gs m σ₂
-    fixed₂ = end-fixed gs m mid σ₁ fixed₁ ran-mid
+    fixed₂ = went-fixed gs m mid σ₁ fixed₁ went₁
+
+    σ₂-is : σ₂ ≡ run σ₁ (calls mid)
+    unfolding calls
+    σ₂-is = went-is gs m mid σ₁ fixed₁ went₁
+
+    replied : Calls.Concluded (run (begun gs m) (calls past)) k d (calls mid) (c .time) q → Replies k d σ₁ mid c
+    unfolding calls
+    replied D = record {
+      none-before = kept-in gs m k mid σ₁ fixed₁ went₁ (rw σ₁-is (D .none-before)) (λ h i n.
+          let w = H .of-cutting h (In-left h mid (c ∷ []) i) n in
+          (w .0, rw (w .2) (comes-part k (h .time) (w .0) (C .keyed (w .0) (w .1)) (C .pass10 (w .0) (w .1)))));
+      exactly = rw (call-is gs m σ₂ c fixed₂, σ₂-is, σ₁-is, q-brought) (D .exactly);
+      room = fits-output;
+    }
+
+    pub replies-ready : Ready k (endOf (begun gs m) past) (H .first .time) → Replies k d (endOf (begun gs m) past) mid c
+    unfolding supposed
+    replies-ready r = replied (Runs.demand-3-ready gs m k d C (calls past) (calls mid) (c .time) q supposed (rw (← σ₁-is) r))
+
+    pub replies : held (owner k) (endOf (begun gs m) past .table .slots) ≡ 0 → Replies k d (endOf (begun gs m) past) mid c
+    replies z = replied (Runs.demand-3 gs m k d C (calls past) (calls mid) (c .time) q supposed (rw (← σ₁-is) z))
+
+  module _ (R : Ran (begun gs m) (past ++ (mid ++ (c ∷ [])))) where
+    ran₁ : Ran σ₁ (mid ++ (c ∷ []))
+    ran₁ = ran-right gs m past (mid ++ (c ∷ [])) (begun gs m) R
 
     ran₂ : Ran σ₂ (c ∷ [])
     ran₂ = ran-right gs m mid (c ∷ []) σ₁ ran₁
 
-    σ₂-is : σ₂ ≡ run σ₁ (calls mid)
-    unfolding calls
-    σ₂-is = end-is gs m mid σ₁ fixed₁ ran-mid
-
-    fits-output : length d ≤ length (c .before)
-    fits-output =
-        let B = comes-brought k (meant gs m c) q q-comes in
-        let f = fit q (B .fit) in
-        let z : q .key .size ≡ k .size = ap (λ (x : Key). x .size) (B .key) in
-        omega (arith, C .sized, f .small, call-room m (c .before) gs (c .contexts) (c .time) (c .frame) (c .time) q q-brought)
-
-    from-calls : Calls.Concluded (run (begun gs m) (calls past)) k d (calls mid) (c .time) q → Concluded k d mid c
-    unfolding calls
-    from-calls D =
-        let last : (step σ₂ (meant gs m c)) .reply ≡ out d = rw (σ₂-is, σ₁-is, q-brought) (D .exactly) in
-        let W = out-so gs m σ₂ c [] fixed₂ ran₂ d last fits-output in
-        record {
-          none-before = λ h i n.
-              let j = In-left h mid (c ∷ []) i in
-              let w = H .of-cutting h j n in
-              let e : comes k (meant gs m h) ≡ w .0 ∷ [] = rw (w .2) (comes-part k (h .time) (w .0) (C .keyed (w .0) (w .1)) (C .pass10 (w .0) (w .1))) in
-              all-kept gs m k mid σ₁ fixed₁ ran-mid (rw σ₁-is (D .none-before)) h i (w .0) e;
-          answer = W .0;
-          output = W .1;
-        }
+    concluded : Replies k d σ₁ mid c → Concluded k d mid c
+    unfolding Ran
+    concluded D = record {
+      none-before = kept-so k mid σ₁ (ran-left gs m mid (c ∷ []) σ₁ ran₁) (D .none-before);
+      answer = outcome-one (c .received .answer) (Outcome.Out (length d)) (ran₂ .0 .answer ∙ ap told (D .exactly));
+      output = out-front d (c .before) (c .output) _ (ran₂ .0 .output) (D .exactly) (D .room);
+    }
 
     -- DEMAND 3, with the wider premise: as the call with the earliest part finds the table, once it has freed the slots that are 60,000 ms
     -- old, the key is not open and the opening rule lets its gateway open a slot
     pub demand-3-ready : Ready k (endOf (begun gs m) past) (H .first .time) → Concluded k d mid c
-    unfolding supposed
-    demand-3-ready r = from-calls (Runs.demand-3-ready gs m k d C (calls past) (calls mid) (c .time) q supposed (rw (← σ₁-is) r))
+    demand-3-ready r = concluded (replies-ready (ran-went (past ++ (mid ++ (c ∷ []))) (begun gs m) R) r)
 
     -- DEMAND 3: "if a gateway holds no slot when the earliest part of a datagram comes, [..]"
     pub demand-3 : held (owner k) (endOf (begun gs m) past .table .slots) ≡ 0 → Concluded k d mid c
-    demand-3 z = from-calls (Runs.demand-3 gs m k d C (calls past) (calls mid) (c .time) q supposed (rw (← σ₁-is) z))
+    demand-3 z = concluded (replies (ran-went (past ++ (mid ++ (c ∷ []))) (begun gs m) R) z)
 
 -- ---- companions, over every run from a fresh table; a run up to any moment is a run (`ran-left`)
 
 made-small : (k : Key) (ps : List Part) (d : List ℕ) → MadeOf k ps d → length d ≤ 2047
 made-small k ps d M = omega (arith, ap length (M .made), length-finish (M .elided) (M .d₀), M .sized, M .bounded)
 
-module _ (gs : List Node) (m : List ℕ) (W : Gateways gs) (h : 16384 ≤ length m) (hs : List Turn) (R : Ran (begun gs m) hs) where
-  -- the gateways stay, and the lent memory keeps its length
-  pub gateways-stay : gatesOf (endOf (begun gs m) hs .table) ≡ gs
-  gateways-stay = end-fixed gs m hs (begun gs m) (fixed-begun gs m W h) R .gates
+module _ (gs : List Node) (m : List ℕ) (W : Gateways gs) (h : 16384 ≤ length m) (hs : List Turn) where
+  module _ (L : Went (begun gs m) hs) where
+    pub went-three : (g : Node) → held g (endOf (begun gs m) hs .table .slots) ≤ 3
+    went-three g = rw (went-is gs m hs (begun gs m) (fixed-begun gs m W h) L) (three gs m W h (map (meant gs m) hs) g)
 
-  pub memory-stays : length (endOf (begun gs m) hs .mem) ≡ length m
-  memory-stays = end-fixed gs m hs (begun gs m) (fixed-begun gs m W h) R .size
+    pub went-eight : openings (begun gs m) hs + free (endOf (begun gs m) hs .table .slots) ≡ 8 + endings (begun gs m) hs
+    went-eight =
+        let F = fixed-begun gs m W h in
+        rw (openings-are gs m hs (begun gs m) F L, endings-are gs m hs (begun gs m) F L, went-is gs m hs (begun gs m) F L) (tally gs m W h (map (meant gs m) hs))
 
-  -- "No gateway ever holds over three slots"
-  pub at-most-three : (g : Node) → held g (endOf (begun gs m) hs .table .slots) ≤ 3
-  at-most-three g = rw (end-is gs m hs (begun gs m) (fixed-begun gs m W h) R) (three gs m W h (map (meant gs m) hs) g)
+  module _ (R : Ran (begun gs m) hs) where
+    -- the gateways stay, and the lent memory keeps its length
+    pub gateways-stay : gatesOf (endOf (begun gs m) hs .table) ≡ gs
+    gateways-stay = end-fixed gs m hs (begun gs m) (fixed-begun gs m W h) R .gates
 
-  -- "At every moment openings so far less endings so far, plus free slots, is 8"
-  pub eight-slots : openings (begun gs m) hs + free (endOf (begun gs m) hs .table .slots) ≡ 8 + endings (begun gs m) hs
-  eight-slots =
-      let F = fixed-begun gs m W h in
-      rw (openings-are gs m hs (begun gs m) F R, endings-are gs m hs (begun gs m) F R, end-is gs m hs (begun gs m) F R) (tally gs m W h (map (meant gs m) hs))
+    pub memory-stays : length (endOf (begun gs m) hs .mem) ≡ length m
+    memory-stays = end-fixed gs m hs (begun gs m) (fixed-begun gs m W h) R .size
+
+    -- "No gateway ever holds over three slots"
+    pub at-most-three : (g : Node) → held g (endOf (begun gs m) hs .table .slots) ≤ 3
+    at-most-three = went-three (ran-went hs (begun gs m) R)
+
+    -- "At every moment openings so far less endings so far, plus free slots, is 8"
+    pub eight-slots : openings (begun gs m) hs + free (endOf (begun gs m) hs .table .slots) ≡ 8 + endings (begun gs m) hs
+    eight-slots = went-eight (ran-went hs (begun gs m) R)
 
 -- "bytes of two such keys never meet in one datagram", in 01's words: "each byte handed out from a slot, a computed checksum aside, is the byte
 -- at its place of a part taken under that slot's key since the slot's opening"
-module _ (gs : List Node) (m : List ℕ) (W : Gateways gs) (room : 16384 ≤ length m) (hs : List Turn) (h : Turn) (R : Ran (begun gs m) (hs ++ (h ∷ []))) where
-  pub never-meet : (p : Part) → Brings gs m h p → (n : ℕ) → h .received .answer ≡ Outcome.Out n → HandedOut gs m (p .key) hs h n
-  unfolding takenOf
-  never-meet p b n a =
-      let F = fixed-begun gs m W room in
-      let R₁ = ran-left gs m hs (h ∷ []) (begun gs m) R in
-      let σ = endOf (begun gs m) hs in
-      let F₁ = end-fixed gs m hs (begun gs m) F R₁ in
-      let R₂ = ran-right gs m hs (h ∷ []) (begun gs m) R in
-      let σ-is = end-is gs m hs (begun gs m) F R₁ in
-      let t : out n ≡ told ((step σ (meant gs m h)) .reply) = sym (ap ofOutcome a) ∙ answer-is gs m σ h [] F₁ R₂ in
-      let D = out-told n ((step σ (meant gs m h)) .reply) t in
-      let e : (step (run (begun gs m) (map (meant gs m) hs)) (part (h .time) p)) .reply ≡ out (D .0) = rw (← σ-is, ← b) (D .1) in
-      let M = Table.never-meet gs m W room (map (meant gs m) hs) (h .time) p (D .0) e in
-      let w : map (meant gs m) (hs ++ (h ∷ [])) ≡ map (meant gs m) hs ++ (part (h .time) p ∷ []) =
-      map-append (meant gs m) hs (h ∷ []) ∙ ap (λ (x : Call). map (meant gs m) hs ++ (x ∷ [])) b in
-      let l : length (D .0) ≤ length (h .before) = omega (arith, made-small _ _ (D .0) M, call-room m (h .before) gs (h .contexts) (h .time) (h .frame) (h .time) p b) in
-      let O = out-so gs m σ h [] F₁ R₂ (D .0) (D .1) l in
-      record {
-        datagram = D .0;
-        length-is = D .2;
-        output = O .1 ∙ ap (λ (x : ℕ). D .0 ++ drop x (h .before)) (D .2);
-        made = rw w M;
-      }
-    where
-      out-told : (n : ℕ) (r : Reply (List ℕ)) → out n ≡ told r → (d : List ℕ) × (r ≡ out d) × (length d ≡ n)
-      out-told n kept e = let z : _≡_ {A = ℕ} 0 1 = cc in absurd (omega arith)
-      out-told n (out d) e = (d, refl, cc)
-      out-told n (refused r) e = let z : _≡_ {A = ℕ} 0 1 = cc in absurd (omega arith)
+module _ (gs : List Node) (m : List ℕ) (W : Gateways gs) (room : 16384 ≤ length m) (hs : List Turn) (h : Turn) where
+  -- of the call's reply, whatever form the answer has
+  module _ (L : Went (begun gs m) (hs ++ (h ∷ []))) where
+    pub went-apart : (p : Part) → Brings gs m h p → (n : ℕ) → out n ≡ told ((step (endOf (begun gs m) hs) (callIn (endOf (begun gs m) hs) h)) .reply)
+        → h .output ≡ outputAfter ((step (endOf (begun gs m) hs) (callIn (endOf (begun gs m) hs) h)) .reply) (h .before) → HandedOut gs m (p .key) hs h n
+    unfolding takenOf
+    went-apart p b n a o =
+        let F = fixed-begun gs m W room in
+        let L₁ = went-left gs m hs (h ∷ []) (begun gs m) L in
+        let σ = endOf (begun gs m) hs in
+        let σ-is = went-is gs m hs (begun gs m) F L₁ in
+        let c = call-is gs m σ h (went-fixed gs m hs (begun gs m) F L₁) in
+        let D = out-told n ((step σ (callIn σ h)) .reply) a in
+        let e : (step (run (begun gs m) (map (meant gs m) hs)) (part (h .time) p)) .reply ≡ out (D .0) = rw (← σ-is, ← b, ← c) (D .1) in
+        let M = Table.never-meet gs m W room (map (meant gs m) hs) (h .time) p (D .0) e in
+        let w : map (meant gs m) (hs ++ (h ∷ [])) ≡ map (meant gs m) hs ++ (part (h .time) p ∷ []) =
+        map-append (meant gs m) hs (h ∷ []) ∙ ap (λ (x : Call). map (meant gs m) hs ++ (x ∷ [])) b in
+        let l : length (D .0) ≤ length (h .before) = omega (arith, made-small _ _ (D .0) M, call-room m (h .before) gs (h .contexts) (h .time) (h .frame) (h .time) p b) in
+        record {
+          datagram = D .0;
+          length-is = D .2;
+          output = out-front (D .0) (h .before) (h .output) _ o (D .1) l ∙ ap (λ (x : ℕ). D .0 ++ drop x (h .before)) (D .2);
+          made = rw w M;
+        }
+      where
+        out-told : (n : ℕ) (r : Reply (List ℕ)) → out n ≡ told r → (d : List ℕ) × (r ≡ out d) × (length d ≡ n)
+        out-told n kept e = let z : _≡_ {A = ℕ} 0 1 = cc in absurd (omega arith)
+        out-told n (out d) e = (d, refl, cc)
+        out-told n (refused r) e = let z : _≡_ {A = ℕ} 0 1 = cc in absurd (omega arith)
+
+  module _ (R : Ran (begun gs m) (hs ++ (h ∷ []))) where
+    pub never-meet : (p : Part) → Brings gs m h p → (n : ℕ) → h .received .answer ≡ Outcome.Out n → HandedOut gs m (p .key) hs h n
+    unfolding Ran
+    never-meet p b n a =
+        let G = ran-right gs m hs (h ∷ []) (begun gs m) R .0 in
+        went-apart (ran-went (hs ++ (h ∷ [])) (begun gs m) R) p b n (sym (ap ofOutcome a) ∙ G .answer) (G .output)

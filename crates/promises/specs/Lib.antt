@@ -1,3 +1,4 @@
 pub mod Cuttings
 pub mod Runs
 pub mod Frames
+pub mod Library
