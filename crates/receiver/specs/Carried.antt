@@ -4,8 +4,9 @@ use Prim.Native.Nat.{ℕ}
 use mathlib.Core.Path.{_≡_}
 use mathlib.Core.Bool.{Bool, false}
 use mathlib.Core.List.{List}
-use lib.ListN.{take}
+use lib.ListN.{length, take, replicate}
 use Rattle.octets.specs.Refusal.{numberOf}
+use Rattle.octets.specs.Write.{over}
 use Rattle.octets.specs.declared.refusal.Refusal.{Refusal}
 use Rattle.sixlowpan.specs.declared.frag.Units.{Units}
 use Rattle.reassembly.specs.Slots.{noKey}
@@ -45,6 +46,18 @@ callAs (What.Refused e) t c = other t (Parts.refused (numberOf e))
 abbrev pub carriedCall : ℕ → Carried → Call
 carriedCall t c = callAs (c .what) t c
 
--- c is what the frame s carries to a table of the gateways gs, with the contexts ctx
+-- ---- and nothing more: a key, an offset and `elided` are a part's alone, and a refusal has no bytes
+abbrev pub Bare : What → Carried → Type 0
+Bare What.Part c = Unit {0}
+Bare What.Whole c = (c .key ≡ noKey) × (c .offset .0 ≡ 0) × (c .elided ≡ false)
+Bare (What.Refused e) c = (c .key ≡ noKey) × (c .offset .0 ≡ 0) × (c .elided ≡ false) × (c .len ≡ 0)
+
+abbrev pub zeros : List ℕ
+zeros = replicate 176 0
+
+-- c is what the frame s carries to a table of the gateways gs, with the contexts ctx: the call that it makes; the bytes, and zeros behind them
 pub record Carries (c : Carried) (gs : List Node) (ctx s : List ℕ) : Type 0 where
   pub call : (t : ℕ) → carriedCall t c ≡ frameCall gs ctx t s
+  pub bare : Bare (c .what) c
+  pub len : c .len ≡ length (bytesOf c)
+  pub bytes : c .bytes ≡ over (length (bytesOf c)) (bytesOf c) zeros

@@ -1,7 +1,7 @@
 use native.Mathlib.Omega.{arith}
 use Rattle.reassembly.specs.Lists.{those}
 use Rattle.reassembly.specs.Slots.{present}
-use Rattle.receiver.proofs.Steps.{frame-none, frame-whole, frame-first, frame-later, frame-refused, later-within}
+use Rattle.receiver.proofs.Steps.{carries-none, carries-whole, carries-first, carries-later, carries-refused, later-within}
 use borrow.Author.Needs.{needs}
 use Rattle.receiver.proofs.Carried.read.Statement.{statement}
 use Rattle.receiver.proofs.Carried.read.Tie as tie
@@ -67,31 +67,31 @@ returns : tie.Need-returns
 returns c =
     let a = c .before .before .before .before .before .before .before .before .before .before .before .before .before .args in
     let gs = those present (a .gateways) in
-    record { call = λ t. rw (c .whole .ensures) (frame-whole gs (a .contexts .now) (a .frame .now) _ (c .before .before .before .before .before .before .before .before .before .before .admit .ensures) _ (c .before .before .before .before .before .before .before .before .a .given .1) _ _ _ (omega arith) (c .before .before .before .before .before .read .ensures) t _ (c .before .before .n .given .1)) }
+    rw (c .whole .ensures) (carries-whole gs (a .contexts .now) (a .frame .now) _ (c .before .before .before .before .before .before .before .before .before .before .admit .ensures) _ (c .before .before .before .before .before .before .before .before .a .given .1) _ _ (c .before .before .before .before .before .read .ensures) _ (c .before .before .n .given .1))
 
 returns-2 : tie.Need-returns-2
 returns-2 c =
     let a = c .before .before .before .before .before .before .before .before .before .before .before .before .before .before .args in
     let gs = those present (a .gateways) in
-    record { call = λ t. rw (c .part .ensures) (frame-first gs (a .contexts .now) (a .frame .now) _ (c .before .before .before .before .before .before .before .before .before .before .before .admit .ensures) _ (c .before .before .before .before .before .before .before .before .before .a .given .1) _ _ _ (omega arith) (c .before .before .before .before .before .before .read .ensures) t _ _ _ (c .before .key-of .ensures) _ _ (c .before .before .before .size .given .1)) }
+    rw (c .part .ensures) (carries-first gs (a .contexts .now) (a .frame .now) _ (c .before .before .before .before .before .before .before .before .before .before .before .admit .ensures) _ (c .before .before .before .before .before .before .before .before .before .a .given .1) _ _ (c .before .before .before .before .before .before .read .ensures) _ _ _ (c .before .key-of .ensures) _ _ (c .before .before .before .size .given .1))
 
 returns-3 : tie.Need-returns-3
 returns-3 c =
     let a = c .before .before .before .before .before .before .before .before .before .before .before .before .before .before .before .before .before .args in
     let gs = those present (a .gateways) in
-    record { call = λ t. rw (c .part2 .ensures) (frame-later gs (a .contexts .now) (a .frame .now) _ (c .before .before .before .before .before .before .before .before .before .before .before .before .before .before .admit .ensures) _ (c .before .before .before .before .before .before .before .before .before .before .before .before .a .given .1) _ _ _ (omega arith) (c .before .before .before .before .before .before .before .before .before .read .ensures) t _ _ _ (c .before .key-of2 .ensures) _ _ (c .before .before .before .before .before .before .size2 .given .1) (omega arith) _ (c .before .before .before .put-part .ensures)) }
+    rw (c .part2 .ensures) (carries-later gs (a .contexts .now) (a .frame .now) _ (c .before .before .before .before .before .before .before .before .before .before .before .before .before .before .admit .ensures) _ (c .before .before .before .before .before .before .before .before .before .before .before .before .a .given .1) _ _ (c .before .before .before .before .before .before .before .before .before .read .ensures) _ _ _ (c .before .key-of2 .ensures) _ _ (c .before .before .before .before .before .before .size2 .given .1) (omega arith) _ (c .before .before .before .put-part .ensures))
 
 returns-4 : tie.Need-returns-4
 returns-4 c =
     let a = c .before .before .before .before .before .before .before .before .before .before .before .before .before .args in
     let gs = those present (a .gateways) in
-    record { call = λ t. rw (c .refused .ensures) (frame-refused gs (a .contexts .now) (a .frame .now) _ (c .before .before .before .before .before .before .before .before .before .before .admit .ensures) _ (c .before .before .before .before .before .before .before .before .a .given .1) _ _ _ (omega arith) (c .before .before .before .before .before .read .ensures) t _ (c .before .before .e .given .1)) }
+    rw (c .refused .ensures) (carries-refused gs (a .contexts .now) (a .frame .now) _ (c .before .before .before .before .before .before .before .before .before .before .admit .ensures) _ (c .before .before .before .before .before .before .before .before .a .given .1) _ _ (c .before .before .before .before .before .read .ensures) _ (c .before .before .e .given .1))
 
 returns-5 : tie.Need-returns-5
 returns-5 c =
     let a = c .before .before .before .before .before .before .before .args in
     let gs = those present (a .gateways) in
-    record { call = λ t. rw (c .refused2 .ensures) (frame-none gs (a .contexts .now) (a .frame .now) _ (c .before .before .before .before .admit .ensures) _ (c .before .before .e2 .given .1) t) }
+    rw (c .refused2 .ensures) (carries-none gs (a .contexts .now) (a .frame .now) _ (c .before .before .before .before .admit .ensures) _ (c .before .before .e2 .given .1))
 
 pub read-spec : {M : Type 1} → statement M
 read-spec =
