@@ -4,6 +4,7 @@ pub mod Engine
 pub mod Instance
 pub mod Runs
 pub mod Frames
+pub mod Origins
 pub mod Library
 pub mod TwoParts
 pub mod Worked

@@ -26,7 +26,7 @@ use Rattle.reassembly.proofs.Gateways.{isKey-key}
 use Rattle.reassembly.proofs.OneSlot.{opened-clear}
 
 -- what stands there, put there, changes nothing
-put-back : (n at : ℕ) (m : List ℕ) → put at (take n (drop at m)) m ≡ m
+pub put-back : (n at : ℕ) (m : List ℕ) → put at (take n (drop at m)) m ≡ m
 unfolding put
 put-back zero at m = refl
 put-back (suc n) at m = by-order (suc at) (length m)

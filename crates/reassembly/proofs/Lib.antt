@@ -13,4 +13,6 @@ pub mod OneSlot
 pub mod AtSlot
 pub mod Sized
 pub mod Origin
+pub mod Ageing
+pub mod Unwritten
 pub mod Promises

@@ -90,7 +90,7 @@ pub data OfferCase (s : Slot) (b : List ℕ) (p : Part) : Type 0 where
   clashed : offer s b p ≡ record { reply = refused 11; slot = freeSlot; bytes = b; ended = 1; took = false } → OfferCase s b p
   placed : touches s p ≡ false → offer s b p ≡ place s b p → OfferCase s b p
 
-offer-case : (s : Slot) (b : List ℕ) (p : Part) → OfferCase s b p
+pub offer-case : (s : Slot) (b : List ℕ) (p : Part) → OfferCase s b p
 offer-case s b p = by-test (repeats s b p)
     (λ e. repeated (offer-repeat s b p e))
     (λ e. by-test (touches s p) (λ c. clashed (offer-clash s b p e c)) (λ c. placed c (offer-clear s b p e c)))
