@@ -149,10 +149,10 @@ iphc-length ctx ls ld s at n h e r =
     spans-first base (λ v. behind ctx ls ld (baseOf v)) 2 (λ v. baseWidth (baseOf v)) spans-base (λ v. spans-behind ctx ls ld (baseOf v)) s at h n e r
 
 -- ---- what is written
-record Short (f : Form) : Type 0 where
-  short : inlineLength (f .inline) ≤ 16
+pub record Short (f : Form) : Type 0 where
+  pub short : inlineLength (f .inline) ≤ 16
 
-short-source : (a : Ipv6Addr) (ll : AddressField) → Short (srcForm a ll)
+pub short-source : (a : Ipv6Addr) (ll : AddressField) → Short (srcForm a ll)
 unfolding srcForm
 short-source a ll = go (isUnspecified a) (isLinkLocal a)
   where
@@ -171,7 +171,7 @@ short-multicast a = go (isGroup8 a) (isScoped a (2 ^ 24)) (isScoped a (2 ^ 40))
     go false false true = omega arith
     go false false false = omega arith
 
-short-dest : (a : Ipv6Addr) (ll : AddressField) → Short (dstForm a ll)
+pub short-dest : (a : Ipv6Addr) (ll : AddressField) → Short (dstForm a ll)
 unfolding dstForm
 short-dest a ll = go (isMulticast a) (isLinkLocal a)
   where
@@ -184,7 +184,7 @@ short-next : (n : NextHeader) → nextWidth (nextBit n) ≤ 1
 short-next Compressed = omega arith
 short-next (Uncompressed p) = omega arith
 
-short-hop : (h : ℕ) → hopLength h ≤ 1
+pub short-hop : (h : ℕ) → hopLength h ≤ 1
 short-hop h = go (eqb (hopBits h) 0b00)
   where
     go : (b : Bool) → choose b 1 0 ≤ 1

@@ -5,3 +5,6 @@ pub mod RoundTrip
 pub mod Lengths
 pub mod Examples
 pub mod Unique
+pub mod Gives
+pub mod Bytes
+pub mod Shortest

@@ -60,7 +60,7 @@ of-is : (o : Option ℕ) (i : ℕ) → isOf o i ≡ true → orRefuse 6 o ≡ is
 of-is none i e = cc
 of-is (some x) i e = ap is (eqb-true x i e)
 
-extended-link : (ll : AddressField) (i : ℕ) → isExtended ll i ≡ true → linkIid ll ≡ is i
+pub extended-link : (ll : AddressField) (i : ℕ) → isExtended ll i ≡ true → linkIid ll ≡ is i
 extended-link AddressField.None i e = cc
 extended-link (AddressField.Some Absent) i e = cc
 extended-link (AddressField.Some (Short a)) i e = cc
@@ -86,7 +86,7 @@ reads-full : (a : Ipv6Addr) → Reads full (be64Bytes (a .prefix) ++ be64Bytes (
 unfolding full
 reads-full a = reads-both be64 be64 ip (be64Bytes (a .prefix)) (be64Bytes (a .iid)) (a .prefix) (a .iid) (reads-be64 (a .prefix)) (reads-be64 (a .iid))
 
-link-back : (ll : AddressField) (i : ℕ) → linkIid ll ≡ is i → Reads (identifier 0b11 ll) [] i
+pub link-back : (ll : AddressField) (i : ℕ) → linkIid ll ≡ is i → Reads (identifier 0b11 ll) [] i
 unfolding identifier
 link-back ll i h p q n e = rw h (reads-give i p q n e)
 
@@ -116,20 +116,20 @@ same-ip : (a : Ipv6Addr) (p i : ℕ) → p ≡ a .prefix → i ≡ a .iid → ip
 same-ip a p i e f = ap₂ ip e f
 
 -- an address of fe80::/64 whose identifier is read so
-reads-elided : (ctx : List ℕ) (mode id : ℕ) (ll : AddressField) (bs : List ℕ) (a : Ipv6Addr) → a .prefix ≡ linkLocal → Reads (identifier mode ll) bs (a .iid) → Reads (elided ctx 0 mode id ll) bs a
+pub reads-elided : (ctx : List ℕ) (mode id : ℕ) (ll : AddressField) (bs : List ℕ) (a : Ipv6Addr) → a .prefix ≡ linkLocal → Reads (identifier mode ll) bs (a .iid) → Reads (elided ctx 0 mode id ll) bs a
 unfolding elided prefixOf
 reads-elided ctx mode id ll bs a e r =
     reads-last (identifier mode ll) (λ z. having (prefixOf ctx 0 id) (λ p. give (ip p z))) bs (a .iid) a r
     (reads-as (give (ip linkLocal (a .iid))) [] (ip linkLocal (a .iid)) a (same-ip a linkLocal (a .iid) (sym e) refl) (reads-give (ip linkLocal (a .iid))))
 
 -- an address whose form is f is read back from its mode and its inline bytes
-abbrev LocalBack : List ℕ → ℕ → AddressField → Ipv6Addr → Form → Type 0
+abbrev pub LocalBack : List ℕ → ℕ → AddressField → Ipv6Addr → Form → Type 0
 LocalBack ctx id ll a f = Reads (elided ctx 0 (f .mode) id ll) (inlineBytes (f .inline)) a × ((0 < f .mode) × (f .mode < 4))
 
-abbrev SourceBack : List ℕ → ℕ → AddressField → Ipv6Addr → Form → Type 0
+abbrev pub SourceBack : List ℕ → ℕ → AddressField → Ipv6Addr → Form → Type 0
 SourceBack ctx id ll a f = Reads (source ctx (f .mode / 4) (f .mode % 4) id ll) (inlineBytes (f .inline)) a × (f .mode < 8)
 
-abbrev DestBack : List ℕ → ℕ → AddressField → Ipv6Addr → Form → Type 0
+abbrev pub DestBack : List ℕ → ℕ → AddressField → Ipv6Addr → Form → Type 0
 DestBack ctx id ll a f = Reads (destination ctx (f .mode / 8) (f .mode / 4 % 2) (f .mode % 4) id ll) (inlineBytes (f .inline)) a × (f .mode < 16)
 
 scoped-is : (a : Ipv6Addr) (b : ℕ) → isScoped a b ≡ true → (a .prefix % 2 ^ 48 ≡ 0) × (a .iid < b)
@@ -161,14 +161,14 @@ module _ (ctx : List ℕ) (id : ℕ) (ll : AddressField) (a : Ipv6Addr) where
       (λ w. (reads-elided ctx 0b10 id ll b2 a e (short-back ll i w), omega arith))
       (reads-elided ctx 0b01 id ll (be64Bytes i) a e (long-back ll i), omega arith)
 
-  local-source : (f : Form) → LocalBack ctx id ll a f → SourceBack ctx id ll a f
+  pub local-source : (f : Form) → LocalBack ctx id ll a f → SourceBack ctx id ll a f
   unfolding source
   local-source f w =
       let x : f .mode / 4 ≡ 0 = omega arith in
       let y : f .mode % 4 ≡ f .mode = omega arith in
       (λ p q n e. rw (x, y, ne-eqb (f .mode) 0 (λ z. omega arith)) (w .0 p q n e), omega arith)
 
-  local-dest : (f : Form) → LocalBack ctx id ll a f → DestBack ctx id ll a f
+  pub local-dest : (f : Form) → LocalBack ctx id ll a f → DestBack ctx id ll a f
   unfolding destination
   local-dest f w =
       let x : f .mode / 8 ≡ 0 = omega arith in
@@ -176,7 +176,7 @@ module _ (ctx : List ℕ) (id : ℕ) (ll : AddressField) (a : Ipv6Addr) where
       let z : f .mode / 4 % 2 ≡ 0 = omega arith in
       (λ p q n e. rw (x, z, y, ne-eqb (f .mode) 0 (λ z. omega arith)) (w .0 p q n e), omega arith)
 
-  source-back : SourceBack ctx id ll a (srcForm a ll)
+  pub source-back : SourceBack ctx id ll a (srcForm a ll)
   unfolding srcForm source
   source-back = go (isUnspecified a) (isLinkLocal a) refl refl
     where
@@ -205,7 +205,7 @@ module _ (ctx : List ℕ) (id : ℕ) (ll : AddressField) (a : Ipv6Addr) where
       go false false true e f g = (reads-as group48 (be16Bytes high48 ++ be32Bytes (a .iid % 2 ^ 32)) (ip ((0xff00 + high48 / 256) * 2 ^ 48) (high48 % 256 * 2 ^ 32 + a .iid % 2 ^ 32)) a (group48-is a m g) (reads-group48 high48 (a .iid % 2 ^ 32)), omega arith)
       go false false false e f g = (reads-full a, omega arith)
 
-  dest-back : DestBack ctx id ll a (dstForm a ll)
+  pub dest-back : DestBack ctx id ll a (dstForm a ll)
   unfolding dstForm destination
   dest-back = go (isMulticast a) (isLinkLocal a) refl refl
     where
@@ -235,7 +235,7 @@ fields-back : (nb hb sm dm : ℕ) → nb < 2 → hb < 4 → sm < 8 → dm < 16 �
 fields-back nb hb sm dm h1 h2 h3 h4 =
     record { lead = omega arith; tf = omega arith; nh = omega arith; hlim = omega arith; cid = omega arith; sac = omega arith; sam = omega arith; m = omega arith; dac = omega arith; dam = omega arith }
 
-hop-bits-lt : (h : ℕ) → hopBits h < 4
+pub hop-bits-lt : (h : ℕ) → hopBits h < 4
 hop-bits-lt h = go (eqb h 1) (eqb h 64) (eqb h 255)
   where
     go : (b c d : Bool) → choose b 0b01 (choose c 0b10 (choose d 0b11 0b00)) < 4
@@ -300,18 +300,15 @@ restored r =
       «flow_label» = WordField.None;
     }
 
--- wherever the bytes of a header stand, whatever follows them and whatever the contexts
-pub round-trip : (r : Repr) (ctx : List ℕ) → Reads (iphc ctx (r .«ll_src_addr») (r .«ll_dst_addr»)) (bytesOf r) (restored r)
-unfolding iphc behind bytesOf frontBytes baseWord reprOf
-round-trip r ctx =
+-- wherever the bytes of a header stand, whatever follows them and whatever the contexts: with any forms of its addresses that read back
+pub forms-trip : (r : Repr) (ctx : List ℕ) (s d : Form) → SourceBack ctx 0 (r .«ll_src_addr») (r .«src_addr») s → DestBack ctx 0 (r .«ll_dst_addr») (r .«dst_addr») d
+    → Reads (iphc ctx (r .«ll_src_addr») (r .«ll_dst_addr»)) (frontBytes (r .«next_header») (r .«hop_limit») s d ++ addressesBytes s d) (restored r)
+unfolding iphc behind frontBytes baseWord reprOf
+forms-trip r ctx s d sb db =
     let ls = r .«ll_src_addr» in
     let ld = r .«ll_dst_addr» in
     let n = r .«next_header» in
     let h = r .«hop_limit» in
-    let s = sourceForm r in
-    let d = destForm r in
-    let sb : SourceBack ctx 0 ls (r .«src_addr») s = source-back ctx 0 ls (r .«src_addr») in
-    let db : DestBack ctx 0 ld (r .«dst_addr») d = dest-back ctx 0 ld (r .«dst_addr») in
     let v : ℕ = word (nextBit n) (hopBits h) (s .mode) (d .mode) in
     let f = fields-back (nextBit n) (hopBits h) (s .mode) (d .mode) (next-bit-lt n) (hop-bits-lt h) (sb .1) (db .1) in
     let b : Base = baseOf v in
@@ -324,6 +321,11 @@ round-trip r ctx =
     (reads-map (addresses ctx b noContexts ls ld) (reprOf ls ld (frontOf n h)) ab pair ra) in
     subst (λ z. Reads (iphc ctx ls ld) z (restored r)) (sym (append-assoc (be16Bytes v) fb ab))
     (reads-then base (λ z. behind ctx ls ld (baseOf z)) (be16Bytes v) (fb ++ ab) v (restored r) (reads-base v (f .lead)) rb)
+
+-- with the forms that are written
+pub round-trip : (r : Repr) (ctx : List ℕ) → Reads (iphc ctx (r .«ll_src_addr») (r .«ll_dst_addr»)) (bytesOf r) (restored r)
+unfolding bytesOf
+round-trip r ctx = forms-trip r ctx (sourceForm r) (destForm r) (source-back ctx 0 (r .«ll_src_addr») (r .«src_addr»)) (dest-back ctx 0 (r .«ll_dst_addr») (r .«dst_addr»))
 
 -- at the front of the room that `emit` leaves
 pub emit-then-parse : (r : Repr) (ctx room : List ℕ) → lengthOf r ≤ length room → iphc ctx (r .«ll_src_addr») (r .«ll_dst_addr») (over (lengthOf r) (bytesOf r) room) 0 ≡ got (restored r) (lengthOf r)

@@ -3,3 +3,4 @@ pub mod Answers
 pub mod Iphc
 pub mod Emit
 pub mod Widths
+pub mod Shortest
