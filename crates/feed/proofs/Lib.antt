@@ -1,0 +1,5 @@
+pub mod Lists
+pub mod Blocks
+pub mod Sorting
+pub mod States
+pub mod Promises

@@ -1,0 +1,69 @@
+-- What a run of chunks comes to: the frames and times that the answers hold, the first thing that went wrong, and the last reader.
+use Prim.Native.Nat.{ℕ, _≤_}
+use mathlib.Core.List.{List, [], _∷_, _++_}
+use lib.ListN.{length}
+use Rattle.octets.specs.Refusal.{numberOf}
+use Rattle.capture.specs.Block.{Timed, framesOf}
+use Rattle.feed.specs.Reading.{First, none, badAt, refusal, Told, pieces}
+use Rattle.feed.specs.Feed.{afterChunk, afterEnd}
+use Rattle.feed.specs.declared.reader.Reader.{Reader}
+use Rattle.feed.specs.declared.reader.Found.{Found}
+use Rattle.feed.specs.declared.reader.Fed.{Fed}
+
+-- ---- an answer
+-- how many good blocks it holds
+abbrev pub countIn : Found → ℕ
+countIn (Found.Blocks n) = n
+countIn (Found.Bad n b) = n
+countIn (Found.Refused e) = 0
+
+abbrev pub firstIn : Found → First
+firstIn (Found.Blocks n) = none
+firstIn (Found.Bad n b) = badAt b
+firstIn (Found.Refused e) = refusal (numberOf e)
+
+-- the frames of blocks, one after the other
+unfoldable pub framesAll : List (List ℕ) → List Timed
+framesAll [] = []
+framesAll (b ∷ bs) = framesOf b ++ framesAll bs
+
+-- the frames of its blocks of 512 bytes
+unfoldable pub framesIn : Fed → List Timed
+framesIn a = framesAll (pieces (countIn (a .found)) (a .blocks))
+
+abbrev pub toldIn : Fed → Told
+toldIn a = record { frames = framesIn a; first = firstIn (a .found) }
+
+-- ---- a run
+-- the first of two, one after the other
+abbrev pub firstOf : First → First → First
+firstOf none y = y
+firstOf (badAt b) y = badAt b
+firstOf (refusal n) y = refusal n
+
+abbrev pub andTold : Told → Told → Told
+andTold x y = record { frames = x .frames ++ y .frames; first = firstOf (x .first) (y .first) }
+
+pub record Run : Type 0 where
+  pub told : Told
+  pub reader : Reader
+
+-- chunk after chunk
+unfoldable pub feedAll : Reader → List (List ℕ) → Run
+feedAll f [] = record { told = record { frames = []; first = none }; reader = f }
+feedAll f (s ∷ ss) = record {
+  told = andTold (toldIn (afterChunk f s)) (feedAll (afterChunk f s .reader) ss .told);
+  reader = feedAll (afterChunk f s .reader) ss .reader;
+}
+
+abbrev pub andEnd : Run → Run
+andEnd q = record { told = andTold (q .told) (toldIn (afterEnd (q .reader))); reader = afterEnd (q .reader) .reader }
+
+-- and then the end
+abbrev pub feedFile : Reader → List (List ℕ) → Run
+feedFile f ss = andEnd (feedAll f ss)
+
+-- chunks that the cable may bring: each of 0 to 600 bytes
+unfoldable pub Short : List (List ℕ) → Type 0
+Short [] = Unit {0}
+Short (s ∷ ss) = (length s ≤ 600) × Short ss
