@@ -6,3 +6,4 @@ pub mod Made
 pub mod Exact
 pub mod Unique
 pub mod Examples
+pub mod File

@@ -11,10 +11,10 @@ use lib.Dec.{ltb}
 use borrow.Author.Tests.{ne-eqb, ltb-true, ltb-false}
 use Rattle.octets.specs.Read.{choose}
 use Rattle.capture.specs.Block.{framesOf, goodBlock, goodHead, goodPlaces, goodEnd}
-use Rattle.feed.specs.Reading.{First, none, badAt, Told, pieces, blocksOf, tell, Reading, behind, readBlocks, readOn}
-use Rattle.feed.specs.Feed.{joined}
+use Rattle.capture.specs.File.{First, none, badAt, Told, pieces, blocksOf, tell, joined}
+use Rattle.feed.specs.Reading.{Reading, behind, readBlocks, readOn}
 use Rattle.feed.specs.Runs.{framesAll}
-use Rattle.feed.proofs.Lists.{cut}
+use Rattle.capture.proofs.File.{cut}
 
 -- ---- one block
 abbrev pub halt : ℕ → Reading

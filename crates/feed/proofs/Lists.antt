@@ -1,12 +1,11 @@
 -- Lists: zeros behind bytes, and pieces of 512.
-use Prim.Native.Nat.{ℕ, zero, suc, _+_, _-_, _/_, _≤_, _<_, min}
+use Prim.Native.Nat.{ℕ, zero, suc, _+_, _-_, _≤_, min}
 use native.Mathlib.Omega.{arith, min-cases}
-use mathlib.Core.List.{List, [], _∷_, _++_, map, append-assoc, append-nil}
+use mathlib.Core.List.{List, [], _++_, map, append-assoc, append-nil}
 use mathlib.Core.Path.{_≡_, sym, ap, ap₂, _∙_}
 use lib.ListN.{length, take, drop, replicate, length-append, length-take, length-drop, length-map, drop-of-length-le}
 use lib.Seq.{take-all, take-at, take-length, take-append-seam, length-take-le}
 use borrow.Rule.Slice.PartMut.{postOf, putMid}
-use Rattle.feed.specs.Reading.{pieces, blocksOf}
 use Rattle.feed.specs.Feed.{padded}
 
 pub drop-zeros : (k n : ℕ) → drop k (replicate {A = ℕ} n 0) ≡ replicate (n - k) 0
@@ -39,12 +38,6 @@ unmapped l f e = sym (length-map l f) ∙ e
 -- all that is behind a place
 pub tail-all : (k : ℕ) (s : List ℕ) → take (length s - k) (drop k s) ≡ drop k s
 tail-all k s = let h : length (drop k s) ≤ length s - k = omega (arith, length-drop k s) in take-all (length s - k) (drop k s) h
-
-pub cut : (s : List ℕ) → 0 < length s → blocksOf s ≡ take 512 s ∷ blocksOf (drop 512 s)
-unfolding pieces
-cut s h =
-    let e : (length s + 511) / 512 ≡ suc ((length (drop 512 s) + 511) / 512) = omega (arith, length-drop 512 s) in
-    ap (λ n. pieces n s) e
 
 -- ---- the pool: n bytes of h copied to the front of p₀, which is then p₁, and s copied behind them
 module _ (h s p₀ p₁ q : List ℕ) (n m : ℕ) (H : length h ≡ 512) (N : n ≤ 512) (S : length s ≤ 600) (P : length p₀ ≡ 1112) (M : m ≡ n)

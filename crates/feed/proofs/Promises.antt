@@ -12,8 +12,9 @@ use Rattle.octets.specs.Refusal.{numberOf}
 use Rattle.octets.specs.declared.refusal.Refusal.{Refusal}
 use Rattle.octets.specs.declared.refusal.Refusal.the-variants.{BadBlock}
 use Rattle.capture.specs.Block.{Timed, framesOf}
-use Rattle.feed.specs.Reading.{First, none, badAt, refusal, Told, pieces, wholeFile, Reading, behind, readBlocks, readOn}
-use Rattle.feed.specs.Feed.{padded, joined, live, closed, starting, goingOn, stopped, complete, declined, answerOf, taken, afterChunk, finished, afterEnd}
+use Rattle.capture.specs.File.{First, none, badAt, refusal, Told, pieces, wholeFile, joined}
+use Rattle.feed.specs.Reading.{Reading, behind, readBlocks, readOn}
+use Rattle.feed.specs.Feed.{padded, live, closed, starting, goingOn, stopped, complete, declined, answerOf, taken, afterChunk, finished, afterEnd}
 use Rattle.feed.specs.Runs.{firstIn, framesAll, framesIn, toldIn, firstOf, andTold, feedAll, andEnd, feedFile, Short}
 use Rattle.feed.specs.declared.reader.Status.{Status}
 use Rattle.feed.specs.declared.reader.Reader.{Reader}

@@ -13,8 +13,9 @@ use Rattle.capture.proofs.Exact.{good-holds}
 use Rattle.capture.proofs.Parts.{bytes-take}
 use Rattle.capture.proofs.Unique.{told-good, told-bad}
 use Rattle.octets.specs.declared.refusal.Refusal.{Refusal}
+use Rattle.capture.specs.File.{joined}
 use Rattle.feed.specs.Reading.{behind, readOn}
-use Rattle.feed.specs.Feed.{joined, goingOn, stopped, answerOf, whileLive}
+use Rattle.feed.specs.Feed.{goingOn, stopped, answerOf, whileLive}
 use Rattle.feed.specs.declared.reader.Status.{Status}
 use Rattle.feed.specs.declared.reader.Fed.{Fed}
 use Rattle.feed.proofs.Blocks.{read-short, read-good, read-bad}

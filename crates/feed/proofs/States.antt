@@ -10,7 +10,8 @@ use borrow.Author.Tests.{lt-ltb, le-ltb}
 use Rattle.octets.specs.Read.{choose}
 use Rattle.octets.specs.declared.refusal.Refusal.{Refusal}
 use Rattle.octets.specs.declared.refusal.Refusal.the-variants.{BadLength, BadBlock}
-use Rattle.feed.specs.Reading.{pieces, readOn}
+use Rattle.capture.specs.File.{pieces}
+use Rattle.feed.specs.Reading.{readOn}
 use Rattle.feed.specs.Feed.{padded, heldBy, closed, starting, Canonical, goingOn, stopped, complete, declined, answerOf, taken, whileLive, afterChunk, finished, afterEnd}
 use Rattle.feed.specs.Runs.{countIn, framesAll, framesIn}
 use Rattle.feed.specs.declared.reader.Status.{Status}

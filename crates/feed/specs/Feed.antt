@@ -2,12 +2,13 @@
 -- it, the blocks, and what was found.
 use Prim.Native.Nat.{ℕ, _-_, _<_}
 use mathlib.Core.Path.{_≡_}
-use mathlib.Core.List.{List, [], _∷_, _++_}
+use mathlib.Core.List.{List, [], _++_}
 use lib.ListN.{length, take, replicate}
 use lib.Dec.{ltb}
 use Rattle.octets.specs.Read.{choose}
 use Rattle.octets.specs.declared.refusal.Refusal.{Refusal}
 use Rattle.octets.specs.declared.refusal.Refusal.the-variants.{BadLength, BadBlock}
+use Rattle.capture.specs.File.{joined}
 use Rattle.feed.specs.Reading.{Reading, readOn}
 use Rattle.feed.specs.declared.reader.Status.{Status}
 use Rattle.feed.specs.declared.reader.Reader.{Reader}
@@ -17,10 +18,6 @@ use Rattle.feed.specs.declared.reader.Fed.{Fed}
 -- the bytes, and zeros up to n
 unfoldable pub padded : ℕ → List ℕ → List ℕ
 padded n s = s ++ replicate (n - length s) 0
-
-unfoldable pub joined : List (List ℕ) → List ℕ
-joined [] = []
-joined (t ∷ ts) = t ++ joined ts
 
 -- ---- readers
 -- the bytes that are held: what stands behind them counts for nothing

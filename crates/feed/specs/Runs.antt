@@ -4,7 +4,7 @@ use mathlib.Core.List.{List, [], _∷_, _++_}
 use lib.ListN.{length}
 use Rattle.octets.specs.Refusal.{numberOf}
 use Rattle.capture.specs.Block.{Timed, framesOf}
-use Rattle.feed.specs.Reading.{First, none, badAt, refusal, Told, pieces}
+use Rattle.capture.specs.File.{First, none, badAt, refusal, Told, pieces}
 use Rattle.feed.specs.Feed.{afterChunk, afterEnd}
 use Rattle.feed.specs.declared.reader.Reader.{Reader}
 use Rattle.feed.specs.declared.reader.Found.{Found}

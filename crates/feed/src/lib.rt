@@ -5,10 +5,10 @@
 //   after it, the good blocks that it completed, and whether the block behind them is bad or the call was refused. The
 //   frames and times of the blocks are read by `capture`.
 //
-// specs/Reading.antt has what a capture says, read whole and read on from a place; specs/Feed.antt what each call
-// answers, on every reader and every chunk; specs/Runs.antt what a run of chunks comes to. proofs/Promises.antt shows
-// that for every cutting the frames, the times and the first refusal are those of the whole file, and that the last
-// readers agree; proofs/States.antt that a reader has one value for each state, and that a refused call changes
+// specs/Reading.antt has what a capture says, read on from a place; specs/Feed.antt what each call answers, on every
+// reader and every chunk; specs/Runs.antt what a run of chunks comes to. proofs/Promises.antt shows that for every
+// cutting the frames, the times and the first refusal are those of the whole file (`wholeFile` of `capture`), and that
+// the last readers agree; proofs/States.antt that a reader has one value for each state, and that a refused call changes
 // nothing. No function asks anything of its caller.
 pub mod reader;
 

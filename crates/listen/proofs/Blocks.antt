@@ -1,5 +1,5 @@
 -- A capture, one block at a time: what is done, with what is left to do, is all.
-use Prim.Native.Nat.{ℕ, suc, _+_, _-_, _/_, _≤_, _<_}
+use Prim.Native.Nat.{ℕ, _+_, _-_, _≤_, _<_}
 use native.Mathlib.Omega.{arith}
 use mathlib.Core.Bool.{Bool, true, false}
 use mathlib.Core.List.{List, [], _∷_, _++_}
@@ -9,8 +9,10 @@ use lib.Seq.{take-all, drop-drop}
 use lib.Dec.{leb}
 use borrow.Author.Tests.{leb-true, leb-false}
 use Rattle.octets.specs.Read.{choose}
+use Rattle.capture.specs.File.{pieces}
+use Rattle.capture.proofs.File.{cut}
 use Rattle.listen.specs.Lines.{Page, putLine, putLines}
-use Rattle.listen.specs.Heard.{Listener, Told, hearBlock, pieces, blocksOf, thenHeard, hearBlocks, hearAll, Hears}
+use Rattle.listen.specs.Heard.{Listener, Told, hearBlock, thenHeard, hearBlocks, hearAll, Hears}
 use Rattle.listen.specs.declared.ear.Ear.{Ear}
 use Rattle.listen.specs.declared.ear.Heard.{Heard}
 use Rattle.listen.proofs.Hearing.{listener, page}
@@ -42,12 +44,6 @@ on-go false s l w h =
 
 left-on : (s : List ℕ) (l : ℕ) → l ≤ length s → drop 512 (left s l) ≡ left s (l - 512)
 left-on s l h = drop-drop 512 (length s - l) s ∙ on-go (leb 512 l) s l refl h
-
-pub cut : (s : List ℕ) → 0 < length s → blocksOf s ≡ take 512 s ∷ blocksOf (drop 512 s)
-unfolding pieces
-cut s h =
-    let e : (length s + 511) / 512 ≡ suc ((length (drop 512 s) + 511) / 512) = omega (arith, length-drop 512 s) in
-    ap (λ n. pieces n s) e
 
 -- ---- the loop
 pub record Onward (s : List ℕ) (l : ℕ) (x₀ x : Listener) (p₀ p : Page) : Type 0 where

@@ -35,7 +35,8 @@ use Rattle.reassembly.specs.Fresh.{seats, fresh}
 use Rattle.reassembly.specs.declared.slot.Node.{Node}
 use Rattle.receiver.specs.Receive.{welcome, admitted, brings, frameCall, callOf}
 use Rattle.listen.specs.Lines.{widthIn, decimal, endLine}
-use Rattle.listen.specs.Heard.{Listener, Told, received, afterFrame, saidOf, afterFrames, saidOfAll, hearBlock, starting, pieces, blocksOf, joined, thenHeard, hearBlocks, hearAll, lastLine, beginning, heard}
+use Rattle.capture.specs.File.{pieces, blocksOf, joined}
+use Rattle.listen.specs.Heard.{Listener, Told, received, afterFrame, saidOf, afterFrames, saidOfAll, hearBlock, starting, thenHeard, hearBlocks, hearAll, lastLine, beginning, heard}
 
 -- ---- the frames: from 0001, and the same from 1234
 abbrev frameFrom : ℕ → ℕ → Timed

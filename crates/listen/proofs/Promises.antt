@@ -16,11 +16,12 @@ use Rattle.expand.proofs.CopyLaws.{length-put}
 use Rattle.io.specs.Digits.{digits}
 use Rattle.text.specs.Text.{Printed, Decimal}
 use Rattle.listen.specs.Lines.{Page, putLine, putLines}
-use Rattle.listen.specs.Heard.{Listener, Told, hearBlock, pieces, blocksOf, joined, thenHeard, hearBlocks, hearAll, lastLine, beginning, heard, Hears}
+use Rattle.capture.specs.File.{pieces, blocksOf, joined}
+use Rattle.listen.specs.Heard.{Listener, Told, hearBlock, thenHeard, hearBlocks, hearAll, lastLine, beginning, heard, Hears}
 use Rattle.listen.specs.declared.ear.Ear.{Ear}
 use Rattle.listen.specs.declared.ear.Heard.{Heard}
 use Rattle.listen.proofs.Hearing.{page}
-use Rattle.listen.proofs.Blocks.{cut}
+use Rattle.capture.proofs.File.{cut}
 use Rattle.listen.proofs.Decimals.{fewest-one}
 
 -- ---- any two answers are equal, and so are the lent bytes after them

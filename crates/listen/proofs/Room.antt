@@ -11,7 +11,8 @@ use Rattle.capture.proofs.BlockSteps.{count-small}
 use Rattle.capture.proofs.Exact.{frames-length}
 use Rattle.reassembly.specs.Parts.{Reply, kept, out, refused, told}
 use Rattle.listen.specs.Lines.{decimal, outWord, keptWord, noWord, newline, frameLine, badLine}
-use Rattle.listen.specs.Heard.{Listener, Told, next, received, afterFrame, saidOf, saidOfAll, hearBlock, pieces, blocksOf, joined, thenHeard, hearBlocks, hearAll}
+use Rattle.capture.specs.File.{pieces, blocksOf, joined}
+use Rattle.listen.specs.Heard.{Listener, Told, next, received, afterFrame, saidOf, saidOfAll, hearBlock, thenHeard, hearBlocks, hearAll}
 use Rattle.listen.proofs.Decimals.{decimal-small}
 
 -- ---- a line takes 46 bytes at most, the lines of a block 138

@@ -1,14 +1,15 @@
 -- What a capture says (the scope document, "Capture blocks and the program"): its blocks in order from number 0, the frames of each good one
 -- given to the receiver at their times, a line for each frame, and a last line.
-use Prim.Native.Nat.{ℕ, zero, suc, _+_, _/_, _%_, _^_}
+use Prim.Native.Nat.{ℕ, _+_, _%_, _^_}
 use mathlib.Core.Bool.{Bool, true, false}
 use mathlib.Core.Path.{_≡_}
 use mathlib.Core.List.{List, [], _∷_, _++_}
-use lib.ListN.{length, take, drop, replicate}
+use lib.ListN.{replicate}
 use Rattle.octets.specs.Read.{choose}
 use Rattle.ieee802154.specs.declared.addr.Address.{Address}
 use Rattle.ieee802154.specs.declared.addr.Address.the-variants.{Short}
 use Rattle.capture.specs.Block.{Timed, framesOf, goodBlock}
+use Rattle.capture.specs.File.{blocksOf, joined}
 use Rattle.reassembly.specs.Slots.{nodeOf, gatesOf}
 use Rattle.reassembly.specs.Parts.{told, outputAfter}
 use Rattle.reassembly.specs.Table.{Result, step}
@@ -79,18 +80,6 @@ gateways = Short 0x0001 ∷ Short 0x0002 ∷ Short 0x0003 ∷ Short 0x0004 ∷ [
 -- at the beginning
 unfoldable pub starting : Ear
 starting = record { table = fresh (nodeOf (Short 1) ∷ nodeOf (Short 2) ∷ nodeOf (Short 3) ∷ nodeOf (Short 4) ∷ []); frames = 0; block = 0 }
-
--- n pieces of 512 bytes, the last one of what is left
-unfoldable pub pieces : ℕ → List ℕ → List (List ℕ)
-pieces zero s = []
-pieces (suc n) s = take 512 s ∷ pieces n (drop 512 s)
-
-abbrev pub blocksOf : List ℕ → List (List ℕ)
-blocksOf s = pieces ((length s + 511) / 512) s
-
-unfoldable pub joined : List (List ℕ) → List ℕ
-joined [] = []
-joined (t ∷ ts) = t ++ joined ts
 
 -- what follows is heard where reading goes on
 abbrev pub thenHeard : Told → Told → Told
