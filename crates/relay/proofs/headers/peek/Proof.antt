@@ -1,0 +1,16 @@
+use Rattle.relay.proofs.Steps.{past-end}
+use borrow.Author.Needs.{needs}
+use Rattle.relay.proofs.headers.peek.Statement.{statement}
+use Rattle.relay.proofs.headers.peek.Tie as tie
+
+shared-slice-read-result : tie.Need-shared-slice-read-result
+shared-slice-read-result c = search needs
+
+returns : tie.Need-returns
+returns c = search needs
+
+returns-2 : tie.Need-returns-2
+returns-2 c = search past-end
+
+pub peek-spec : {M : Type 1} → statement M
+peek-spec = tie.close (tie.spec shared-slice-read-result returns returns-2)
