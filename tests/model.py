@@ -15,7 +15,7 @@ one. `None` stands where the frame type has no addressing.
 
 import re
 import sys
-from dataclasses import dataclass, field
+from dataclasses import dataclass, field, replace
 
 ABSENT = b""
 
@@ -144,6 +144,32 @@ def read_mac(frame):
         reader.take((0, 1, 5, 9)[security >> 3 & 3])
     return Mac(frame_type, secured, bool(control & 0x0010), bool(control & 0x0020), compressed, version,
                frame[2] if frame_type in (0, 1, 2, 3, 5) else None, dst_pan, dst, src_pan, src, reader.at)
+
+
+# ------------------------------------------------------------------------------------- mesh and broadcast headers (02)
+
+def through_relays(mac, frame):
+    """"mesh 10 V F with four bits of hops left, the deep-hops byte when those are 1111, originator and final address of
+    two or eight bytes, high byte first; then the broadcast dispatch 01010000 with its sequence number"; "1 where bytes
+    end, 3 for a mesh or broadcast header after a broadcast one, or a second mesh header"."""
+    reader, kinds = Reader(frame, mac.length), []
+    while reader.rest():
+        first = reader.rest()[0]
+        if first >> 6 == 0b10:
+            if kinds:
+                raise Refused(3)
+            kinds.append("mesh")
+            reader.take(2 if first & 0b1111 == 0b1111 else 1)
+            originator = reader.take(2 if first & 0b100000 else 8)
+            mac = replace(mac, src=originator, dst=reader.take(2 if first & 0b10000 else 8))
+        elif first == 0b01010000:
+            if "broadcast" in kinds:
+                raise Refused(3)
+            kinds.append("broadcast")
+            reader.take(2)
+        else:
+            break
+    return replace(mac, length=reader.at)
 
 
 # ------------------------------------------------------------------------------------------------- dispatch, fragments
@@ -445,6 +471,7 @@ class Table:
         mac = read_mac(frame)
         if mac.secured or mac.frame_type != 1:
             raise Refused(13)
+        mac = through_relays(mac, frame)
         if mac.src not in self.gateways:
             raise Refused(9)
         if mac.dst == ABSENT:

@@ -170,7 +170,8 @@ def mac_refusals(s):
     s.remark("Dispatch: no byte 1, other leading bits 2; 6 comes before it")
     s.call(0, from_to(ONE, CONTROLLER, ""), 1, "")
     for dispatch in ("41", "00", "42", "5f", "80", "c8", "d0", "e8", "f0", "ff"):
-        s.call(0, from_to(ONE, CONTROLLER, dispatch + "00000000"), 2, "")
+        # 80 begins a mesh header, of 17 bytes
+        s.call(0, from_to(ONE, CONTROLLER, dispatch + "00000000"), 1 if dispatch == "80" else 2, "")
     s.call(0, f.mac(ONE, b"", compress=False), 6, "")
 
 

@@ -33,7 +33,7 @@ use Rattle.sixlowpan.specs.declared.frag.Repr.the-variants.{FirstFragment, Frag
 use Rattle.expand.specs.Expand.{Expansion, Measure, expansion, ofExpanded, measureOf, answered, written}
 use Rattle.expand.specs.declared.datagram.Expanded.{Expanded}
 use Rattle.expand.proofs.Datagrams.{expansion-made, at-most-175}
-use Rattle.incoming.specs.Incoming.{ofArrival, arrival, Brought, datagram, part, scratchAfter, whole, piece, fragment, payload, payloadIn, Brings}
+use Rattle.incoming.specs.Incoming.{ofArrival, framed, arrival, Brought, datagram, part, scratchAfter, whole, piece, fragment, payload, payloadIn, Brings}
 use Rattle.incoming.specs.declared.arrival.Arrival.{Arrival}
 use Rattle.incoming.specs.declared.payload.Payload.{Payload}
 use Rattle.incoming.specs.declared.arrival.ArrivalAnswer.{ArrivalAnswer}
@@ -43,9 +43,17 @@ short-go : {B : Type 0} (s : List ℕ) (m : Read Mac.Repr) → mac s ≡ m → (
 short-go s (is p) q k b e = mac-short s (p .value) (p .next) q
 short-go s (refused n) q k b e = not-refused _ n e
 
+framed-short : (s : List ℕ) (a : Arrival) → framed s ≡ is a → length s ≤ 127
+unfolding framed
+framed-short s a e = short-go s (mac s) refl _ a e
+
 pub arrival-short : (s : List ℕ) (a : Arrival) → arrival s ≡ is a → length s ≤ 127
 unfolding arrival
-arrival-short s a e = short-go s (mac s) refl _ a e
+arrival-short s a e = go (framed s) refl _ e
+  where
+    go : (m : Answer Arrival) → framed s ≡ m → (k : Arrival → Answer Arrival) → andThen m k ≡ is a → length s ≤ 127
+    go (is b) q k e = framed-short s b q
+    go (refused n) q k e = not-refused _ n e
 
 -- ---- a scratch of 175 bytes is enough
 pub in-room : (room ctx : List ℕ) (a : Arrival) (s : List ℕ) → 175 ≤ length room → payloadIn room ctx a s ≡ payload ctx a s
@@ -195,3 +203,7 @@ on-arrival {x = x} m k p q e = on-is ofArrival (ArrivalAnswer.Is x) x m k refl p
 
 pub no-arrival : {B : Type 0} {y : ArrivalAnswer} {e : Refusal} (m : Answer Arrival) (k : Arrival → Answer B) → ofArrival y ≡ m → y ≡ ArrivalAnswer.Refused e → refused (numberOf e) ≡ andThen m k
 no-arrival {e = e} m k p q = on-refused ofArrival (ArrivalAnswer.Refused e) (numberOf e) m k refl p q
+
+-- an answer that a call gave
+pub is-told : {A : Type 0} (x y : A) → x ≡ y → is x ≡ is y
+is-told x y p = ap is p

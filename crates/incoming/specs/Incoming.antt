@@ -14,6 +14,8 @@ use Rattle.ieee802154.specs.declared.addr.Address.{Address}
 use Rattle.ieee802154.specs.declared.addr.Address.the-variants.{Absent}
 use Rattle.ieee802154.specs.declared.addr.AddressField.{AddressField}
 use Rattle.ieee802154.specs.declared.header.Repr as Mac
+use Rattle.relay.specs.Headers.{relay}
+use Rattle.relay.specs.declared.mesh.MeshField.{MeshField}
 use Rattle.sixlowpan.specs.Dispatch.{dispatch}
 use Rattle.sixlowpan.specs.Frag.{frag}
 use Rattle.sixlowpan.specs.declared.dispatch.SixlowpanPacket.{SixlowpanPacket}
@@ -38,11 +40,20 @@ abbrev pub arrivalOf : Mac.Repr → ℕ → Arrival
 arrivalOf h n = record { src = addressOf (h .«src_addr»); dst = addressOf (h .«dst_addr»); at = n }
 
 -- the MAC header's refusals; then 13: secured, or not a Data frame
-unfoldable pub arrival : List ℕ → Answer Arrival
-arrival s =
+unfoldable pub framed : List ℕ → Answer Arrival
+framed s =
     andThen (mac s)
     (λ p. choose (p .value .«security_enabled») (refused 13)
     (choose (eqb (p .value .«frame_type» .0) 1) (is (arrivalOf (p .value) (p .next))) (refused 13)))
+
+-- where a mesh header stands, its originator and final address take the place of the MAC addresses
+abbrev pub through : Arrival → MeshField → ℕ → Arrival
+through a MeshField.None n = record { src = a .src; dst = a .dst; at = n }
+through a (MeshField.Some m) n = record { src = m .origin; dst = m .destination; at = n }
+
+-- then the refusals of mesh and broadcast headers, behind which the payload begins
+unfoldable pub arrival : List ℕ → Answer Arrival
+arrival s = andThen (framed s) (λ a. andThen (relay s (a .at)) (λ p. is (through a (p .value .mesh) (p .next))))
 
 -- ---- what it brings: a whole datagram; or a part of one, with the size and tag of its key, the unit of 8 bytes that it begins at, its
 -- bytes, a first part's in full, and whether its checksum was elided

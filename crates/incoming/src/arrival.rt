@@ -1,11 +1,15 @@
-// A frame's MAC header, judged.
+// A frame's MAC header, judged, and the relays' headers behind it.
 ghost use mathlib.Core.Path.{_≡_};
-ghost use Rattle.incoming.specs.Incoming.{ofArrival, addressOf, arrivalOf, arrival};
+ghost use Rattle.incoming.specs.Incoming.{ofArrival, addressOf, arrivalOf, framed, through, arrival};
 use ieee802154::Address;
 use ieee802154::AddressField;
 use ieee802154::Parsed;
 use ieee802154::Repr;
+use octets::cursor::Cursor;
 use octets::refusal::Refusal;
+use relay::MeshField;
+use relay::Relay;
+use relay::RelayRead;
 
 // Who sends a frame to whom, and where its payload begins.
 pub struct Arrival {
@@ -41,8 +45,8 @@ impl Arrival {
     }
 
     // The refusals of the MAC header, and then 13: secured, or not a Data frame.
-    pub fn read(frame: &[u8]) -> ArrivalAnswer
-        ensures { λ r. ⌜ ofArrival r ≡ arrival (now (frame .entry)) ⌝ }
+    fn framed(frame: &[u8]) -> ArrivalAnswer
+        ensures { λ r. ⌜ ofArrival r ≡ framed (now (frame .entry)) ⌝ }
     {
         match Repr::parse(frame) {
             Parsed::Header(mac, at) => {
@@ -55,6 +59,39 @@ impl Arrival {
                 ArrivalAnswer::Refused(Refusal::NotExpanded)
             }
             Parsed::Refused(e) => ArrivalAnswer::Refused(e),
+        }
+    }
+    // With the addresses of a mesh header, where there is one, and a payload that begins at a place.
+    fn through(self, mesh: MeshField, at: usize) -> Arrival
+        ensures { λ r. ⌜ r ≡ through self mesh at ⌝ }
+    {
+        match mesh {
+            MeshField::None => {
+                let src = self.src;
+                let dst = self.dst;
+                Arrival { src, dst, at }
+            }
+            MeshField::Some(m) => {
+                let src = m.origin;
+                let dst = m.destination;
+                Arrival { src, dst, at }
+            }
+        }
+    }
+
+    // What the MAC header says, and then what the relays' headers say.
+    pub fn read(frame: &[u8]) -> ArrivalAnswer
+        ensures { λ r. ⌜ ofArrival r ≡ arrival (now (frame .entry)) ⌝ }
+    {
+        match Arrival::framed(frame) {
+            ArrivalAnswer::Is(a) => match Relay::read(frame, Cursor { at: a.at }) {
+                RelayRead::Headers(r, c) => {
+                    let mesh = r.mesh;
+                    ArrivalAnswer::Is(a.through(mesh, c.at))
+                }
+                RelayRead::Refused(e) => ArrivalAnswer::Refused(e),
+            },
+            ArrivalAnswer::Refused(e) => ArrivalAnswer::Refused(e),
         }
     }
 }

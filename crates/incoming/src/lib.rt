@@ -1,6 +1,7 @@
 // What a frame brings: a whole datagram, a part of one, or a refusal.
 //
-// - `arrival`: a frame's MAC header, judged: who sends it to whom, and where its payload begins.
+// - `arrival`: a frame's MAC header, judged, and the relays' headers behind it: who sends it to whom, and where its
+//   payload begins.
 // - `payload`: what stands there: a whole datagram or a part of one, compressed headers in full.
 //
 // The answers are those of specs/Incoming.antt on every input, and the checks come in the scope document's order. The

@@ -21,11 +21,12 @@ use Rattle.ieee802154.specs.Addressing.{panField, addressField, side, sides, ad
 use Rattle.ieee802154.specs.Security.{auxiliary}
 use Rattle.ieee802154.specs.Mac.{sequenceOf, reprOf, headerRest, header, mac}
 use Rattle.ieee802154.specs.declared.addr.Address.the-variants.{Short}
+use Rattle.relay.specs.Headers.{meshField, broadcastField, relay}
 use Rattle.sixlowpan.specs.Dispatch.{dispatchOf, dispatch}
 use Rattle.expand.specs.Expand.{Expansion}
 use Rattle.expand.proofs.CopyLaws.{length-put}
 use Rattle.expand.proofs.Examples.{printed-example}
-use Rattle.incoming.specs.Incoming.{arrival, datagram, whole, payload}
+use Rattle.incoming.specs.Incoming.{framed, arrival, datagram, whole, payload}
 use Rattle.reassembly.specs.Lists.{count, those}
 use Rattle.reassembly.specs.Slots.{nodeOf, noNode, noKey, sameNode, present, freeSlot, expired, expire1, expire, gatesOf, isGate}
 use Rattle.reassembly.specs.Parts as Parts
@@ -60,12 +61,12 @@ handed =
     ∷ 0x01 ∷ 0x02 ∷ 0x03 ∷ 0x04 ∷ []
 
 brought : frameCall gates [] 0 (frameFrom 0x01 0x00 .frame) ≡ other 0 (Parts.out handed)
-unfolding frameCall admitted welcome arrival payload whole dispatch dispatchOf mac header byte le16 headerRest supported addressing hasAddressing sides side carried carried01 panField addressField auxiliary reprOf sequenceOf hasSequence isGate sameNode present count
+unfolding frameCall admitted welcome arrival framed relay meshField broadcastField payload whole dispatch dispatchOf mac header byte le16 headerRest supported addressing hasAddressing sides side carried carried01 panField addressField auxiliary reprOf sequenceOf hasSequence isGate sameNode present count
 brought =
     ap (λ (e : Answer Expansion). brings 0 (record { src = Short 1; dst = Short 0xffff; at = 9 }) (andThen e (λ (x : Expansion). is (datagram (x .bytes))))) printed-example
 
 turned-away : frameCall gates [] 0 (frameFrom 0x34 0x12 .frame) ≡ other 0 (Parts.refused 9)
-unfolding frameCall admitted welcome arrival mac header byte le16 headerRest supported addressing hasAddressing sides side carried carried01 panField addressField auxiliary reprOf sequenceOf hasSequence isGate sameNode present count
+unfolding frameCall admitted welcome arrival framed relay meshField broadcastField mac header byte le16 headerRest supported addressing hasAddressing sides side carried carried01 panField addressField auxiliary reprOf sequenceOf hasSequence isGate sameNode present count
 turned-away = refl
 
 -- "1 out 44", "2 no 9"

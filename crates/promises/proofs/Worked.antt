@@ -10,6 +10,7 @@ use Rattle.ieee802154.specs.Control.{supported, hasSequence, hasAddressing, car
 use Rattle.ieee802154.specs.Addressing.{panField, addressField, side, sides, addressing}
 use Rattle.ieee802154.specs.Security.{auxiliary}
 use Rattle.ieee802154.specs.Mac as Mac
+use Rattle.relay.specs.Headers.{meshField, broadcastField, relay}
 use Rattle.sixlowpan.specs.Dispatch.{dispatchOf, dispatch}
 use Rattle.sixlowpan.specs.Frag.{fragRest, frag}
 use Rattle.sixlowpan.specs.Next.{nextHeader}
@@ -19,7 +20,7 @@ use Rattle.iphc.specs.Iphc as Iphc
 use Rattle.expand.specs.Headers.{transport, byNext, headers}
 use Rattle.expand.specs.Full as Full
 use Rattle.expand.specs.Expand as Expand
-use Rattle.incoming.specs.Incoming.{arrival, piece, fragment, payload}
+use Rattle.incoming.specs.Incoming.{framed, arrival, piece, fragment, payload}
 use Rattle.reassembly.specs.Lists.{count}
 use Rattle.reassembly.specs.Slots.{sameNode, present, isGate}
 use Rattle.reassembly.specs.Table.{part}
@@ -89,12 +90,12 @@ module _ (t : ℕ) where
       (frameCall gateways [] t (first-frame 0x01 0x44 0xc7) ≡ part t (low (key 1) last-month 7 false))
       × (frameCall gateways [] t (first-frame 0x02 0x43 0xc6) ≡ part t (low (key 2) this-month 7 false))
       × (frameCall gateways [] t elided-frame ≡ part t (low (key 1) resent 7 true))
-  unfolding byte be16 le16 byteBytes be16Bytes be32Bytes be64Bytes put supported hasSequence hasAddressing carried01 carried panField addressField side sides addressing auxiliary Mac.sequenceOf Mac.reprOf Mac.headerRest Mac.header Mac.mac dispatchOf dispatch fragRest frag nextHeader nhcOf nhc bothPorts ports checksum udpRest udp Iphc.base Iphc.contexts Iphc.traffic Iphc.hopLimit Iphc.frontRest Iphc.front Iphc.identifier Iphc.prefixOf Iphc.elided Iphc.source Iphc.destination Iphc.addresses Iphc.reprOf Iphc.behind Iphc.iphc transport byNext headers Full.frontBytes Full.bothBytes Full.ipv6Bytes Full.udpBytes Expand.plain Expand.bytesOf Expand.sized Expand.expansion arrival piece fragment payload count sameNode present isGate keyOf welcome admitted frameCall zeroed
+  unfolding byte be16 le16 byteBytes be16Bytes be32Bytes be64Bytes put supported hasSequence hasAddressing carried01 carried panField addressField side sides addressing auxiliary Mac.sequenceOf Mac.reprOf Mac.headerRest Mac.header Mac.mac dispatchOf dispatch fragRest frag nextHeader nhcOf nhc bothPorts ports checksum udpRest udp Iphc.base Iphc.contexts Iphc.traffic Iphc.hopLimit Iphc.frontRest Iphc.front Iphc.identifier Iphc.prefixOf Iphc.elided Iphc.source Iphc.destination Iphc.addresses Iphc.reprOf Iphc.behind Iphc.iphc transport byNext headers Full.frontBytes Full.bothBytes Full.ipv6Bytes Full.udpBytes Expand.plain Expand.bytesOf Expand.sized Expand.expansion meshField broadcastField relay framed arrival piece fragment payload count sameNode present isGate keyOf welcome admitted frameCall zeroed
   first-brings = (refl, refl, refl)
 
   pub later-brings :
       (frameCall gateways [] t (later-frame 0x01 0x30) ≡ part t (high (key 1) last-month 7 false))
       × (frameCall gateways [] t (later-frame 0x02 0x31) ≡ part t (high (key 2) this-month 7 false))
       × (frameCall gateways [] t (later-frame 0x01 0x31) ≡ part t (high (key 1) resent 7 true))
-  unfolding byte be16 le16 supported hasSequence hasAddressing carried01 carried panField addressField side sides addressing auxiliary Mac.sequenceOf Mac.reprOf Mac.headerRest Mac.header Mac.mac dispatchOf dispatch fragRest frag arrival piece fragment payload count sameNode present isGate keyOf welcome admitted frameCall zeroed
+  unfolding byte be16 le16 supported hasSequence hasAddressing carried01 carried panField addressField side sides addressing auxiliary Mac.sequenceOf Mac.reprOf Mac.headerRest Mac.header Mac.mac dispatchOf dispatch fragRest frag meshField broadcastField relay framed arrival piece fragment payload count sameNode present isGate keyOf welcome admitted frameCall zeroed
   later-brings = (refl, refl, refl)

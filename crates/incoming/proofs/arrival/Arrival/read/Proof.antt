@@ -1,52 +1,54 @@
-use Rattle.ieee802154.proofs.HeaderSteps.{header-steps}
-use Rattle.octets.proofs.Steps.{steps}
-use Rattle.octets.proofs.Steps.{flags}
+use Rattle.relay.proofs.Steps.{relay-steps}
+use Rattle.incoming.proofs.Steps.{on-arrival, no-arrival, is-told}
 use Rattle.incoming.specs.Incoming.{arrival}
 use borrow.Author.Needs.{needs}
 use Rattle.incoming.proofs.arrival.Arrival.read.Statement.{statement}
 use Rattle.incoming.proofs.arrival.Arrival.read.Tie as tie
 
-parse-requires : tie.Need-parse-requires
-parse-requires c κs = search needs
+framed-requires : tie.Need-framed-requires
+framed-requires c κs = search needs
 
-enum-known-mac : tie.Need-enum-known-mac
-enum-known-mac c = search needs
+enum-known-a : tie.Need-enum-known-a
+enum-known-a c = search needs
 
-returns : tie.Need-returns
-unfolding arrival
-returns c = search (header-steps, steps, flags)
+read-requires : tie.Need-read-requires
+read-requires c κs = search needs
 
-is-data-requires : tie.Need-is-data-requires
-is-data-requires c κs = search needs
+enum-known-r : tie.Need-enum-known-r
+enum-known-r c = search needs
 
-of-requires : tie.Need-of-requires
-of-requires c κs = search needs
-
-returns-2 : tie.Need-returns-2
-unfolding arrival
-returns-2 c = search (header-steps, steps, flags)
+through-requires : tie.Need-through-requires
+through-requires c κs = search needs
 
 enum-known-e : tie.Need-enum-known-e
 enum-known-e c = search needs
 
+enum-known-e-2 : tie.Need-enum-known-e-2
+enum-known-e-2 c = search needs
+
+returns : tie.Need-returns
+unfolding arrival
+returns c = search (on-arrival, relay-steps, is-told)
+
+returns-2 : tie.Need-returns-2
+unfolding arrival
+returns-2 c = search (on-arrival, no-arrival, relay-steps)
+
 returns-3 : tie.Need-returns-3
 unfolding arrival
-returns-3 c = search (header-steps, steps, flags)
-
-returns-4 : tie.Need-returns-4
-unfolding arrival
-returns-4 c = search (header-steps, steps, flags)
+returns-3 c = search (on-arrival, no-arrival, relay-steps)
 
 pub read-spec : {M : Type 1} → statement M
 read-spec =
     tie.close
     (tie.spec
-    parse-requires
-    enum-known-mac
-    returns
-    is-data-requires
-    of-requires
-    returns-2
+    framed-requires
+    enum-known-a
+    read-requires
+    enum-known-r
+    through-requires
     enum-known-e
-    returns-3
-    returns-4)
+    enum-known-e-2
+    returns
+    returns-2
+    returns-3)
