@@ -34,6 +34,8 @@ pub enum Refusal {
     BadGateways,
     // A bad capture block.
     BadBlock,
+    // What no capture block can hold: a time, or a frame when no block number is left.
+    NotHeld,
 }
 
 impl Refusal {
@@ -57,6 +59,7 @@ impl Refusal {
             Refusal::NotExpanded => 13,
             Refusal::BadGateways => 14,
             Refusal::BadBlock => 15,
+            Refusal::NotHeld => 18,
         }
     }
 }

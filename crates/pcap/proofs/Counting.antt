@@ -1,0 +1,128 @@
+-- What the functions of coming need: frames counted one after the other, and the length of their blocks.
+use Prim.Native.Nat.{ℕ, zero, suc, _+_, _*_, _-_, _/_, _≤_, _<_}
+use native.Mathlib.Nat.{add-zero, zero-add}
+use native.Mathlib.Omega.{arith}
+use mathlib.Core.Path.{_≡_, refl, sym, ap, ap₂, _∙_}
+use mathlib.Core.List.{List, [], _∷_, _++_}
+use mathlib.Core.Bool.{Bool, true, false}
+use lib.Dec.{leb, ltb}
+use lib.ListN.{length, take, drop, length-append}
+use borrow.Author.Tests.{le-leb, lt-leb, lt-ltb, le-ltb}
+use Rattle.octets.specs.Read.{Answer, is, refused, Read, got, andThen, choose}
+use Rattle.octets.specs.Refusal.{numberOf}
+use Rattle.octets.specs.Write.{ofWritten}
+use Rattle.octets.specs.Answers.{ofSkip}
+use Rattle.octets.specs.declared.refusal.Refusal.{Refusal}
+use Rattle.octets.specs.declared.cursor.Cursor.{Cursor}
+use Rattle.octets.specs.declared.cursor.Skipped.{Skipped}
+use Rattle.octets.specs.declared.write.Written.{Written}
+use Rattle.octets.proofs.Spans.{not-refused}
+use Rattle.capture.specs.Block.{Timed}
+use Rattle.capture.specs.Made.{blockOf, Bytes}
+use Rattle.pcap.specs.Frames.{blocksFrom, blocksOf, frameField, framesField, mostFrames, head, valueOnly, framesOfPcap}
+use Rattle.pcap.specs.Moves.{fromPcap, lengthed, counted, Holdable}
+use Rattle.pcap.specs.Answers.{ofFrame}
+use Rattle.pcap.specs.declared.read.FrameRead.{FrameRead}
+use Rattle.pcap.proofs.There.{frame-length}
+use Rattle.pcap.proofs.Back.{frame-back, frames-back, pcap-holds}
+use Rattle.pcap.proofs.Blocks.{Each, block-length, tail-each, first-each}
+
+-- ---- one frame more
+module _ (s : List ℕ) (k at : ℕ) (h : at < length s) (w : k ≤ at) where
+  opened : (r : Read Timed) → frameField s at ≡ r → counted s k at ≡ andThen (andThen r (λ p. choose (ltb k mostFrames) (andThen (framesField (length s - (k + 1)) (k + 1) s (p .next)) (λ q. got (p .value ∷ q .value) (q .next))) (refused 18))) (λ p. is (k + length (p .value)))
+  unfolding framesField
+  opened r q =
+      let e : length s - k ≡ suc (length s - (k + 1)) = omega arith in
+      rw (e, lt-leb (length s) at h) (rw q refl)
+
+  one-go : (f : Timed) (r : Read (List Timed)) → andThen (andThen r (λ q. got (f ∷ q .value) (q .next))) (λ p. is (k + length (p .value))) ≡ andThen r (λ p. is (k + 1 + length (p .value)))
+  one-go f (is p) = let e : k + suc (length (p .value)) ≡ k + 1 + length (p .value) = omega arith in ap is e
+  one-go f (refused n) = refl
+
+  pub count-turn : (f : Timed) (n : ℕ) → frameField s at ≡ got f n → k < mostFrames → counted s (k + 1) n ≡ counted s k at
+  count-turn f n q m = sym (opened (got f n) q ∙ rw (lt-ltb k mostFrames m) (one-go f (framesField (length s - (k + 1)) (k + 1) s n)))
+
+  pub count-full : (f : Timed) (n : ℕ) → frameField s at ≡ got f n → mostFrames ≤ k → refused 18 ≡ counted s k at
+  count-full f n q m = sym (opened (got f n) q ∙ rw (le-ltb k mostFrames m) refl)
+
+  pub count-stop : (n : ℕ) → frameField s at ≡ refused n → refused n ≡ counted s k at
+  count-stop n q = sym (opened (refused n) q)
+
+end-go : (n k : ℕ) (s : List ℕ) (at : ℕ) → length s ≤ at → framesField n k s at ≡ got [] at
+unfolding framesField
+end-go zero k s at h = refl
+end-go (suc n) k s at h = rw (le-leb (length s) at h) refl
+
+pub count-end : (s : List ℕ) (k at : ℕ) → length s ≤ at → is k ≡ counted s k at
+count-end s k at h = sym (rw (end-go (length s - k) k s at h) (ap is (add-zero k)))
+
+-- from what calls told
+module _ (s : List ℕ) (k at : ℕ) (h : at < length s) (w : k ≤ at) (y : FrameRead) (p : ofFrame s y ≡ frameField s at) where
+  frame-is : (x : FrameRead) → y ≡ x → frameField s at ≡ ofFrame s x
+  frame-is x q = sym p ∙ ap (ofFrame s) q
+
+  pub told-turn : (t : ℕ) (c : Cursor) (n : ℕ) → y ≡ FrameRead.Frame t c n → k < mostFrames → counted s (k + 1) (c .at + n) ≡ counted s k at
+  told-turn t c n q m = count-turn s k at h w _ (c .at + n) (frame-is (FrameRead.Frame t c n) q) m
+
+  pub told-full : (t : ℕ) (c : Cursor) (n : ℕ) → y ≡ FrameRead.Frame t c n → mostFrames ≤ k → refused 18 ≡ counted s k at
+  told-full t c n q m = count-full s k at h w _ (c .at + n) (frame-is (FrameRead.Frame t c n) q) m
+
+  pub told-stop : (e : Refusal) → y ≡ FrameRead.Refused e → refused (numberOf e) ≡ counted s k at
+  told-stop e q = count-stop s k at h w (numberOf e) (frame-is (FrameRead.Refused e) q)
+
+  pub told-on : Bytes s → (t : ℕ) (c : Cursor) (n : ℕ) → y ≡ FrameRead.Frame t c n → (at + 16 ≤ c .at + n) × (c .at + n ≤ length s)
+  told-on b t c n q =
+      let g : at ≤ length s = omega arith in
+      let f : Timed = record { time = t; frame = take (n) (drop (c .at) s) } in
+      let x = frame-back s at f (c .at + n) b g (frame-is (FrameRead.Frame t c n) q) in
+      let l = x .stands .1 .0 in
+      (omega (arith, frame-length f), x .stands .1 .1)
+
+-- ---- the length of blocks
+pub blocks-length : (fs : List Timed) (b : ℕ) → Each fs → length (blocksFrom b fs) ≡ 512 * ((length fs + 2) / 3)
+unfolding blocksFrom
+blocks-length [] b v = refl
+blocks-length (x ∷ []) b v = block-length b (x ∷ []) (omega arith) v
+blocks-length (x ∷ y ∷ []) b v = block-length b (x ∷ y ∷ []) (omega arith) v
+blocks-length (x ∷ y ∷ z ∷ fs) b v =
+    let g = x ∷ y ∷ z ∷ [] in
+    let u : Each fs = tail-each z fs (tail-each y (z ∷ fs) (tail-each x (y ∷ z ∷ fs) v)) in
+    omega (arith, length-append (blockOf b g) (blocksFrom (b + 1) fs), block-length b g (omega arith) (first-each x y z fs v), blocks-length fs (b + 1) u)
+
+-- ---- the whole
+module _ (s : List ℕ) (b : Bytes s) where
+  made-go : (at k : ℕ) (r : Read (List Timed)) → framesField (length s) 0 s at ≡ r → head s 0 ≡ got tt at → is k ≡ andThen r (λ p. is (0 + length (p .value))) → (is (512 * ((k + 2) / 3)) ≡ lengthed (fromPcap s)) × (k ≤ mostFrames)
+  unfolding fromPcap framesOfPcap
+  made-go at k (is p) q e c =
+      let x : k ≡ 0 + length (p .value) = cc in
+      let f : framesOfPcap s ≡ is (p .value) = rw (e, q) refl in
+      let v = pcap-holds s (p .value) b f in
+      let l = blocks-length (p .value) 0 (v .each) in
+      let m = v .few in
+      let z : 512 * ((k + 2) / 3) ≡ length (blocksOf (p .value)) = omega arith in
+      (rw (e, q) (ap is z), omega arith)
+  made-go at k (refused n) q e c = not-refused _ n (sym c)
+
+  none-go : (at n : ℕ) (r : Read (List Timed)) → framesField (length s) 0 s at ≡ r → head s 0 ≡ got tt at → refused n ≡ andThen r (λ p. is (0 + length (p .value))) → refused n ≡ lengthed (fromPcap s)
+  unfolding fromPcap framesOfPcap
+  none-go at n (is p) q e c = not-refused _ n c
+  none-go at n (refused k) q e c = rw (e, q) c
+
+  -- from what calls told
+  module _ (y : Skipped) (p : ofSkip y ≡ head s 0) where
+    pub head-none : (e : Refusal) → y ≡ Skipped.Refused e → refused (numberOf e) ≡ lengthed (fromPcap s)
+    unfolding fromPcap framesOfPcap
+    head-none e q = let z : head s 0 ≡ refused (numberOf e) = sym p ∙ ap ofSkip q in rw z refl
+
+    module _ (c : Cursor) (q : y ≡ Skipped.Past c) (r : Written) (g : ofWritten r ≡ counted s 0 (c .at)) where
+      all-left : counted s 0 (c .at) ≡ andThen (framesField (length s) 0 s (c .at)) (λ p. is (0 + length (p .value)))
+      all-left = let z : length s - 0 ≡ length s = omega arith in ap (λ n. andThen (framesField n 0 s (c .at)) (λ p. is (0 + length (p .value)))) z
+
+      start : head s 0 ≡ got tt (c .at)
+      start = sym p ∙ ap ofSkip q
+
+      pub count-made : (k : ℕ) → r ≡ Written.Bytes k → (is (512 * ((k + 2) / 3)) ≡ lengthed (fromPcap s)) × (k ≤ mostFrames)
+      count-made k u = made-go (c .at) k (framesField (length s) 0 s (c .at)) refl start (sym (ap ofWritten u) ∙ g ∙ all-left)
+
+      pub count-none : (e : Refusal) → r ≡ Written.Refused e → refused (numberOf e) ≡ lengthed (fromPcap s)
+      count-none e u = none-go (c .at) (numberOf e) (framesField (length s) 0 s (c .at)) refl start (sym (ap ofWritten u) ∙ g ∙ all-left)

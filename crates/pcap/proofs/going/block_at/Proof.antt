@@ -1,0 +1,69 @@
+use Rattle.pcap.proofs.Carrying.{none-left, rest-left, whole-left}
+use mathlib.Core.Path.{refl}
+use lib.ListN.{length}
+use Prim.Native.Nat.{_+_, _-_}
+use native.Mathlib.Omega.{arith}
+use borrow.Author.Needs.{needs}
+use Rattle.pcap.proofs.going.block_at.Statement.{statement}
+use Rattle.pcap.proofs.going.block_at.Tie as tie
+
+sub-result : tie.Need-sub-result
+sub-result c = search needs
+
+part-result-start : tie.Need-part-result-start
+part-result-start c = search needs
+
+part-result-end : tie.Need-part-result-end
+part-result-end c = search needs
+
+returns : tie.Need-returns
+returns c = let a = c .before .before .args in none-left (a .s .now) (a .from) (c .before .if1 .taken)
+
+sub-if2 : tie.Need-sub-if2
+sub-if2 c = search needs
+
+sub-result-2 : tie.Need-sub-result-2
+sub-result-2 c = search needs
+
+part-result-start-2 : tie.Need-part-result-start-2
+part-result-start-2 c = search needs
+
+part-result-end-2 : tie.Need-part-result-end-2
+part-result-end-2 c = search needs
+
+returns-2 : tie.Need-returns-2
+returns-2 c = let a = c .before .before .before .args in rest-left (a .s .now) (a .from) (length (a .s .now) - a .from) (omega arith) (omega arith) refl
+
+add-result : tie.Need-add-result
+add-result c = search needs
+
+sub-result-3 : tie.Need-sub-result-3
+sub-result-3 c = search needs
+
+part-result-start-3 : tie.Need-part-result-start-3
+part-result-start-3 c = search needs
+
+part-result-end-3 : tie.Need-part-result-end-3
+part-result-end-3 c = search needs
+
+returns-3 : tie.Need-returns-3
+returns-3 c = let a = c .before .before .before .args in whole-left (a .s .now) (a .from) (a .from + 512 - a .from) (omega arith)
+
+pub block-at-spec : {M : Type 1} → statement M
+block-at-spec =
+    tie.close
+    (tie.spec
+    sub-result
+    part-result-start
+    part-result-end
+    returns
+    sub-if2
+    sub-result-2
+    part-result-start-2
+    part-result-end-2
+    returns-2
+    add-result
+    sub-result-3
+    part-result-start-3
+    part-result-end-3
+    returns-3)

@@ -1,0 +1,4 @@
+pub mod Frames
+pub mod Moves
+pub mod Answers
+pub mod Placing

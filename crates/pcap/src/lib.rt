@@ -1,0 +1,13 @@
+// Captures in pcap: a capture of blocks moved to pcap and back (the change requests, 12).
+//
+// - `going`: `to_pcap`, from blocks to pcap. `coming`: `from_pcap`, from pcap to blocks. Each measures first, which decides all
+//   that can be refused, and then writes by a pass that cannot refuse: a refusal writes nothing.
+// - `read`: the fields of pcap. `put` and `fill`: frames into pcap and into blocks.
+//
+// Both moves are over one list of timed frames (specs/Frames.antt); `to_pcap` and `from_pcap` are specs/Moves.antt's `toPcap`
+// and `fromPcap` on every slice. proofs/Moves.antt shows what they keep.
+pub mod coming;
+mod fill;
+pub mod going;
+mod put;
+pub mod read;
