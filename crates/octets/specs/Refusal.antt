@@ -1,7 +1,7 @@
 -- The number that the scope document gives each refusal ("Refusal numbers").
 use Prim.Native.Nat.{ℕ}
 use Rattle.octets.specs.declared.refusal.Refusal.{Refusal}
-use Rattle.octets.specs.declared.refusal.Refusal.the-variants.{Ended, NotThisHeader, Unsupported, BadLength, NoContext, NoAddress, NoRoom, EarlierTime, NotGateway, BadPart, Clash, NoSlot, NotExpanded, BadGateways, BadBlock, NotHeld}
+use Rattle.octets.specs.declared.refusal.Refusal.the-variants.{Ended, NotThisHeader, Unsupported, BadLength, NoContext, NoAddress, NoRoom, EarlierTime, NotGateway, BadPart, Clash, NoSlot, NotExpanded, BadGateways, BadBlock, NotCut, NotHeld}
 
 abbrev pub numberOf : Refusal → ℕ
 numberOf Ended = 1
@@ -19,4 +19,5 @@ numberOf NoSlot = 12
 numberOf NotExpanded = 13
 numberOf BadGateways = 14
 numberOf BadBlock = 15
+numberOf NotCut = 16
 numberOf NotHeld = 18

@@ -34,6 +34,8 @@ pub enum Refusal {
     BadGateways,
     // A bad capture block.
     BadBlock,
+    // A datagram that is not cut: not of version 6, of another payload length, or of a traffic class or flow label other than 0.
+    NotCut,
     // What no capture block can hold: a time, or a frame when no block number is left.
     NotHeld,
 }
@@ -59,6 +61,7 @@ impl Refusal {
             Refusal::NotExpanded => 13,
             Refusal::BadGateways => 14,
             Refusal::BadBlock => 15,
+            Refusal::NotCut => 16,
             Refusal::NotHeld => 18,
         }
     }

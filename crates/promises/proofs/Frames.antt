@@ -141,12 +141,12 @@ module _ (gs : List Node) (m : List ℕ) where
 
 -- ---- what came
 
-part-one : (t u : ℕ) (p q : Part) → part t p ≡ part u q → p ≡ q
+pub part-one : (t u : ℕ) (p q : Part) → part t p ≡ part u q → p ≡ q
 part-one t u p q e = cc
 
 module _ (gs : List Node) (m : List ℕ) (k : Key) where
   -- a part came in one of the calls
-  came-in : (hs : List Turn) (p : Part) → In p (came k (map (meant gs m) hs)) → (h : Turn) × In h hs × (comes k (meant gs m h) ≡ p ∷ [])
+  pub came-in : (hs : List Turn) (p : Part) → In p (came k (map (meant gs m) hs)) → (h : Turn) × In h hs × (comes k (meant gs m h) ≡ p ∷ [])
   unfolding came
   came-in [] p i = absurd i
   came-in (h ∷ hs) p i = go (comes-one k (meant gs m h)) (λ j. came-in hs p j)

@@ -9,3 +9,6 @@ pub mod Library
 pub mod TwoParts
 pub mod Worked
 pub mod Witness
+pub mod Sent
+pub mod SentParts
+pub mod SentRuns

@@ -2,3 +2,4 @@ pub mod Cuttings
 pub mod Runs
 pub mod Frames
 pub mod Library
+pub mod Sent

@@ -1,0 +1,198 @@
+-- The frames that we send, in any order, each at least once, fed as demand 3 asks to a table that lists the source address, hand out the same
+-- datagram.
+use Prim.Native.Nat.{ℕ, _+_, _-_, _*_, _≤_, _<_}
+use native.Mathlib.Omega.{arith}
+use mathlib.Core.List.{List, [], _∷_, _++_, map}
+use mathlib.Core.Bool.{Bool, true, false, _||_}
+use mathlib.Core.Logic.{_⊎_, inl, inr}
+use mathlib.Core.Path.{_≡_, refl, sym, ap, subst, _∙_}
+use lib.Dec.{ltb, leb}
+use lib.ListN.{length, drop}
+use borrow.Author.Tests.{le-leb, le-ltb}
+use Rattle.octets.specs.Read.{Answer, is, refused, choose}
+use Rattle.octets.proofs.Spans.{not-refused}
+use Rattle.expand.proofs.SumLaws.{Bytes}
+use Rattle.reassembly.specs.Cover.{In, Has, Covers}
+use Rattle.reassembly.specs.Fresh.{begun}
+use Rattle.reassembly.specs.Parts.{Part, fits, out, told}
+use Rattle.reassembly.specs.Slots.{nodeOf, owner, gatesOf, isGate, held}
+use Rattle.reassembly.specs.Table.{Call, part, other, State, lentCall, comes, pass, step, Gives}
+use Rattle.reassembly.specs.declared.slot.Key.{Key}
+use Rattle.reassembly.specs.declared.slot.Node.{Node}
+use Rattle.reassembly.specs.declared.part.Outcome.{Outcome}
+use Rattle.reassembly.proofs.Promises.{outcome-one}
+use Rattle.reassembly.proofs.Runs.{comes-brought, comes-part}
+use Rattle.receiver.specs.Names.{named}
+use Rattle.receiver.specs.Receive.{frameCall, callOf}
+use Rattle.receiver.proofs.Names.{frame-part, call-part}
+use Rattle.cutting.specs.Fields.{isOurs}
+use Rattle.cutting.specs.Head.{macLength, headLength, covers}
+use Rattle.cutting.specs.Pieces.{wholeLength, pieces}
+use Rattle.cutting.specs.Cut.{planOf, frameOf, inRange, hasBoth, cut}
+use Rattle.cutting.specs.declared.link.Link.{Link}
+use Rattle.cutting.specs.declared.piece.Piece.{Piece}
+use Rattle.cutting.specs.declared.piece.Piece.the-variants.{Whole, First, Later}
+use Rattle.cutting.proofs.WriteLaws.{in-range}
+use Rattle.cutting.proofs.Tiling.{Each, pieces-each, startOf, endOf, pieces-chain}
+use Rattle.promises.specs.Runs.{came}
+use Rattle.promises.specs.Frames.{Turn, callIn, Ran, endOf as endsAt, meant, Brings, partsOf, Supposed, Concluded}
+use Rattle.promises.specs.Cuttings.{Cutting}
+use Rattle.promises.specs.Sent.{keyFor, partFor, callFor, SentSupposed}
+use Rattle.promises.proofs.Engine.{In-left, In-right}
+use Rattle.promises.proofs.Frames.{part-one, came-in, out-front, demand-3}
+use Rattle.promises.proofs.Sent.{Cuts, frames-bring}
+use Rattle.promises.proofs.SentParts.{each-in, in-map, map-in, Stands, stands, each-some, all-stand, fits-is, chain-apart, parts-cut}
+
+-- ---- what a cutting says: nothing was refused
+record Was (l : Link) (d : List ℕ) (fs : List (List ℕ)) : Type 0 where
+  pub range : inRange l d ≡ true
+  pub both : hasBoth l ≡ true
+  pub ours : isOurs d ≡ true
+  pub frames : fs ≡ map (frameOf l d) (pieces (planOf l d))
+
+cut-go : {A : Type 0} (a b c : Bool) (x y : A) → choose a (choose b (choose c (is x) (refused 16)) (refused 6)) (refused 4) ≡ is y → (a ≡ true) × (b ≡ true) × (c ≡ true) × (y ≡ x)
+cut-go true true true x y e = (refl, refl, refl, cc)
+cut-go true true false x y e = not-refused y 16 e
+cut-go true false c x y e = not-refused y 6 e
+cut-go false b c x y e = not-refused y 4 e
+
+cut-was : (l : Link) (d : List ℕ) (fs : List (List ℕ)) → cut l d ≡ is fs → Was l d fs
+unfolding cut
+cut-was l d fs e =
+    let w = cut-go (inRange l d) (hasBoth l) (isOurs d) (map (frameOf l d) (pieces (planOf l d))) fs e in
+    record { range = w .0; both = w .1; ours = w .2; frames = w .3 }
+
+pub cuts : (l : Link) (d : List ℕ) (fs : List (List ℕ)) → Bytes d → cut l d ≡ is fs → Cuts l d
+cuts l d fs b e =
+    let w = cut-was l d fs e in
+    record { bytes = b; ready = in-range l d (inRange l d) refl (w .range); both = w .both; ours = w .ours }
+
+-- ---- what a call brings came
+came-has : (gs : List Node) (m : List ℕ) (k : Key) (hs : List Turn) (h : Turn) (p : Part) → In h hs → Brings gs m h p → p .key ≡ k → fits p ≡ true → In p (came k (map (meant gs m) hs))
+unfolding came
+came-has gs m k [] h p i b e f = absurd i
+came-has gs m k (g ∷ hs) h p (inl q) b e f =
+    let c : comes k (meant gs m g) ≡ p ∷ [] = ap (λ z. comes k (meant gs m z)) (sym q) ∙ ap (comes k) b ∙ comes-part k (h .time) p e f in
+    rw c (inl refl)
+came-has gs m k (g ∷ hs) h p (inr i) b e f = In-right p (comes k (meant gs m g)) (came k (map (meant gs m) hs)) (came-has gs m k hs h p i b e f)
+
+-- ---- a datagram in more than one frame
+module _ (gs : List Node) (m : List ℕ) (l : Link) (d : List ℕ) (fs : List (List ℕ)) (b : Bytes d) (e : cut l d ≡ is fs) (more : l .limit < macLength l + (headLength l d + (length d - covers d))) (past mid : List Turn) (c : Turn) (H : SentSupposed gs m l d fs past mid c) where
+  abbrev ps : List Piece
+  ps = pieces (planOf l d)
+
+  K : Cuts l d
+  K = cuts l d fs b e
+
+  frames-are : fs ≡ map (frameOf l d) ps
+  frames-are = cut-was l d fs e .frames
+
+  stand : (x : Piece) → In x ps → Stands l d x
+  stand x i = stands l d (K .ready) x i
+
+  -- a frame of the cutting is a piece's
+  of-frame : (f : List ℕ) → In f fs → (x : Piece) × In x ps × (f ≡ frameOf l d x)
+  of-frame f i = in-map (frameOf l d) ps f (rw frames-are at i)
+
+  as-part : (t : ℕ) → Each (λ x. callFor l d t x ≡ part t (partFor l d x)) ps
+  as-part t = pieces-each l d (K .ready) (λ x. callFor l d t x ≡ part t (partFor l d x)) (λ q. absurd (omega arith)) (λ n f. refl) (λ least at n z g. refl)
+
+  brought : (h : Turn) (x : Piece) → In x ps → h .frame ≡ frameOf l d x → frameCall gs (h .contexts) (h .time) (h .frame) ≡ part (h .time) (partFor l d x)
+  brought h x i q =
+      ap (frameCall gs (h .contexts) (h .time)) q
+      ∙ each-in (λ z. frameCall gs (h .contexts) (h .time) (frameOf l d z) ≡ callFor l d (h .time) z) ps x (frames-bring l d K gs (H .lists) (h .contexts) (h .time)) i
+      ∙ each-in (λ z. callFor l d (h .time) z ≡ part (h .time) (partFor l d z)) ps x (as-part (h .time)) i
+
+  name : (h : Turn) (x : Piece) → In x ps → h .frame ≡ frameOf l d x → named (h .frame) ≡ is (keyFor l d)
+  name h x i q = frame-part gs (h .contexts) (h .time) (h .frame) (h .time) (partFor l d x) (brought h x i q) .name ∙ ap is (stand x i .key)
+
+  lent : (h : Turn) (x : Piece) → In x ps → h .frame ≡ frameOf l d x → 2047 ≤ length (h .before) → Brings gs m h (partFor l d x)
+  unfolding callOf lentCall
+  lent h x i q r = rw (le-ltb (length m) 16384 (H .enough), le-ltb (length (h .before)) 2047 r) (brought h x i q)
+
+  -- a call with a frame of the cutting brings its part
+  brings-frame : (h : Turn) → In h (mid ++ (c ∷ [])) → In (h .frame) fs → (x : Piece) × In x ps × (h .frame ≡ frameOf l d x) × Brings gs m h (partFor l d x)
+  brings-frame h j i = let (x, n, q) = of-frame (h .frame) i in (x, n, q, lent h x n q (H .room h j i))
+
+  covered : Covers (length d) (partsOf gs m (keyFor l d) (mid ++ (c ∷ [])))
+  unfolding partsOf parts-cut
+  covered y k =
+      let (p, i, has) = parts-cut l d (K .ready) .fill y k in
+      let (x, j, q) = in-map (partFor l d) ps p i in
+      let (h, n, f) = H .each (frameOf l d x) (subst (In (frameOf l d x)) (sym frames-are) (map-in (frameOf l d) ps x j)) in
+      let s = stand x j in
+      let r = lent h x j f (H .room h n (subst (λ z. In z fs) (sym f) (subst (In (frameOf l d x)) (sym frames-are) (map-in (frameOf l d) ps x j)))) in
+      (partFor l d x, came-has gs m (keyFor l d) (mid ++ (c ∷ [])) h (partFor l d x) n r (s .key) (fits-is l d (K .ready) x s), subst (λ z. Has z y) q has)
+
+  -- before the last, its first byte is missing
+  not-covered : Covers (length d) (partsOf gs m (keyFor l d) mid) → ⊥
+  unfolding partsOf
+  not-covered C =
+      let (x, i, q) = of-frame (c .frame) (H .last) in
+      let s = stand x i in
+      let (p, j, has) = C (startOf x) (omega (arith, s .some, s .within)) in
+      let (h, n, o) = came-in gs m (keyFor l d) mid p j in
+      let B = comes-brought (keyFor l d) (meant gs m h) p o in
+      let N = call-part m (h .before) gs (h .contexts) (h .time) (h .frame) (B .time) p (B .call) in
+      let n′ : In h (mid ++ (c ∷ [])) = In-left h mid (c ∷ []) n in
+      let (w, v, f, r) = brings-frame h n′ (H .only h n′ (N .name ∙ ap is (B .key))) in
+      let same : partFor l d w ≡ p = part-one (h .time) (B .time) (partFor l d w) p (sym r ∙ B .call) in
+      let t = stand w v in
+      let has′ : Has (partFor l d w) (startOf x) = subst (λ z. Has z (startOf x)) (sym same) has in
+      let g : w ≡ x = chain-apart d ps 0 (startOf x) w x (pieces-chain l d (K .ready)) (each-some l d (K .ready) ps (all-stand l d (K .ready))) v i (omega (arith, t .begins)) (omega (arith, t .begins, t .ends)) (omega arith) (omega (arith, s .some)) in
+      H .new h n (f ∙ ap (frameOf l d) g ∙ sym q)
+
+  -- what demand 3 supposes
+  sent-supposed : Supposed gs m (keyFor l d) d (parts-cut l d (K .ready)) past mid c
+  unfolding parts-cut
+  sent-supposed = record {
+    gateways = H .gateways;
+    enough = H .enough;
+    forward = H .forward;
+    first = H .first;
+    then = H .then;
+    earliest = H .earliest;
+    earliest-named = let (x, i, q) = of-frame (H .first .frame) (H .earliest-sent) in name (H .first) x i q;
+    of-cutting = λ h j n.
+        let (x, i, q, r) = brings-frame h j (H .only h j n) in
+        (partFor l d x, map-in (partFor l d) ps x i, r);
+    cover = covered;
+    not-before = not-covered;
+    soon = H .soon;
+  }
+
+  -- the same datagram is handed out, by the call with the last frame and none before it
+  pub sent-handed-out : Ran (begun gs m) (past ++ (mid ++ (c ∷ []))) → held (owner (keyFor l d)) (endsAt (begun gs m) past .table .slots) ≡ 0 → Concluded (keyFor l d) d mid c
+  sent-handed-out R z = demand-3 gs m (keyFor l d) d (parts-cut l d (K .ready)) past mid c sent-supposed R z
+
+-- ---- a datagram in one frame
+one-piece : (l : Link) (d : List ℕ) → macLength l + (headLength l d + (length d - covers d)) ≤ l .limit → pieces (planOf l d) ≡ Whole ∷ []
+unfolding pieces wholeLength planOf
+one-piece l d h = rw (le-leb (macLength l + (headLength l d + (length d - covers d))) (l .limit) h) refl
+
+-- whatever the table σ holds: it lists the source address, its time is not past, and memory and output are long enough
+module _ (σ : State) (l : Link) (d : List ℕ) (fs : List (List ℕ)) (b : Bytes d) (e : cut l d ≡ is fs) (one : macLength l + (headLength l d + (length d - covers d)) ≤ l .limit) (lists : isGate (nodeOf (l .src)) (gatesOf (σ .table)) ≡ true) (enough : 16384 ≤ length (σ .mem)) (h : Turn) (sent : In (h .frame) fs) (time : σ .table .last ≤ h .time) (room : 2047 ≤ length (h .before)) where
+  whole-frame : h .frame ≡ frameOf l d Whole
+  whole-frame = go (in-map (frameOf l d) (Whole ∷ []) (h .frame) (rw (cut-was l d fs e .frames, one-piece l d one) at sent))
+    where
+      go : (x : Piece) × In x (Whole ∷ []) × (h .frame ≡ frameOf l d x) → h .frame ≡ frameOf l d Whole
+      go (x, inl q, f) = f ∙ ap (frameOf l d) q
+      go (x, inr i, f) = absurd i
+
+  whole-call : frameCall (gatesOf (σ .table)) (h .contexts) (h .time) (h .frame) ≡ other (h .time) (out d)
+  whole-call =
+      let E = frames-bring l d (cuts l d fs b e) (gatesOf (σ .table)) lists (h .contexts) (h .time) in
+      ap (frameCall (gatesOf (σ .table)) (h .contexts) (h .time)) whole-frame
+      ∙ each-in (λ z. frameCall (gatesOf (σ .table)) (h .contexts) (h .time) (frameOf l d z) ≡ callFor l d (h .time) z) (pieces (planOf l d)) Whole E (rw (one-piece l d one) (inl refl))
+
+  whole-reply : (step σ (callIn σ h)) .reply ≡ out d
+  unfolding callIn callOf lentCall step pass
+  whole-reply = rw (le-ltb (length (σ .mem)) 16384 enough, le-ltb (length (h .before)) 2047 room, whole-call, le-ltb (h .time) (σ .table .last) time) refl
+
+  -- the call hands the same datagram out
+  pub whole-handed-out : Gives (h .received) (h .memory) (h .before) (h .output) (step σ (callIn σ h)) → (h .received .answer ≡ Outcome.Out (length d)) × (h .output ≡ d ++ drop (length d) (h .before))
+  whole-handed-out G =
+      let R = cuts l d fs b e .ready in (
+        outcome-one (h .received .answer) (Outcome.Out (length d)) (G .answer ∙ ap told whole-reply),
+        out-front d (h .before) (h .output) _ (G .output) whole-reply (omega (arith, R .1)),
+      )
