@@ -8,6 +8,7 @@ use lib.Dec.{ltb}
 use lib.ListN.{length, getD}
 use borrow.Author.Tests.{ne-eqb}
 use Rattle.octets.specs.Read.{is, refused, got, andThen, choose, byte}
+use Rattle.octets.proofs.Spans.{not-refused}
 use Rattle.relay.specs.Headers.{isEither, relay}
 use Rattle.relay.specs.declared.mesh.Mesh.{Mesh}
 use Rattle.relay.specs.declared.mesh.MeshField.{MeshField}
@@ -24,7 +25,7 @@ unfolding dispatchOf
 unknown b f g h = rw (ne-eqb (b / 8) 0b11000 f, ne-eqb (b / 8) 0b11100 g, ne-eqb (b / 32) 0b011 h) refl
 
 both : (b n : ℕ) (k : SixlowpanPacket) → dispatchOf b ≡ refused n → dispatchOf b ≡ is k → ⊥
-both b n k e f = cc
+both b n k e f = not-refused k n (sym e ∙ f)
 
 neither : (b : ℕ) (k : SixlowpanPacket) → dispatchOf b ≡ is k → isEither b ≡ false
 neither b k e =
