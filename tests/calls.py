@@ -25,32 +25,47 @@ TOP = 2 ** 64 - 1
 
 # ---------------------------------------------------------------------------------------------------------------- runs
 
-def address_text(address):
-    return {0: "a", 2: "s", 8: "e"}[len(address)] + address.hex()
+def station_text(one):
+    """`s0001@abcd`; without @ where it has no PAN."""
+    text = {0: "a", 2: "s", 8: "e"}[len(one)] + one.hex()
+    return text if one.pan is None else f"{text}@{one.pan:04x}"
 
 
 def some_address(rng):
-    return rng.choice((f.short(rng.randrange(1, 5)), f.short(rng.randrange(0x10000)), f.extended(rng.randrange(1, 5)),
+    """A station: mostly under PAN abcd; an extended one may have none."""
+    address = rng.choice((f.short(rng.randrange(1, 5)), f.short(rng.randrange(0x10000)), f.extended(rng.randrange(1, 5)),
                        f.extended(0x0011223344556677), f.extended(0x020000fffe001234), rng.randbytes(8), f.BROADCAST))
+    if len(address) == 8 and rng.random() < 0.2:
+        return f.Station(address, None)
+    return f.Station(address, rng.choice((f.PAN, f.PAN, f.PAN, 0xabce, 1, 0xffff, 0)))
+
+
+def same_in(one, stations):
+    return one.named() in [other.named() for other in stations]
+
+
+def elsewhere(rng, one):
+    """The same address in another PAN."""
+    return f.Station(one, rng.choice([pan for pan in (f.PAN, 0xabce, 0xffff) if pan != one.pan]))
 
 
 def gateway_list(rng):
     """Mostly a good list; else over four, two equal, or an absent address."""
     gateways = []
     while len(gateways) < rng.choice((0, 1, 2, 3, 4, 4, 4, 4)):
-        one = some_address(rng)
-        if one not in gateways:
+        one = elsewhere(rng, rng.choice(gateways)) if gateways and rng.random() < 0.3 else some_address(rng)
+        if not same_in(one, gateways):
             gateways.append(one)
     kind = rng.randrange(100)
     if kind < 2:
         while len(gateways) < rng.choice((5, 5, 6, 9)):
             one = some_address(rng)
-            if one not in gateways:
+            if not same_in(one, gateways):
                 gateways.append(one)
     elif kind < 4 and gateways:
         gateways.insert(rng.randrange(len(gateways) + 1), rng.choice(gateways))
     elif kind < 6:
-        gateways.insert(rng.randrange(len(gateways) + 1), b"")
+        gateways.insert(rng.randrange(len(gateways) + 1), f.Station(b"", rng.choice((None, f.PAN))))
     return gateways
 
 
@@ -59,8 +74,9 @@ def prefix(rng):
 
 
 def world_of(rng, gateways):
-    known = gateways or [f.short(9)]
+    known = gateways or [f.Station(f.short(9))]
     strangers = [one for one in (f.short(0x1234), f.extended(0x99), f.short(5), f.extended(1)) if one not in known]
+    strangers += [one for one in [elsewhere(rng, known[0])] if not same_in(one, known)]
     destinations = [f.BROADCAST, f.short(0xabcd), f.extended(0x0011223344556677), known[0]]
     contexts = [prefix(rng) for _ in range(rng.choice((0, 0, 1, 1, 2, 3, 16, 17)))]
     return scenes.World(known, strangers, destinations, contexts, TOP)
@@ -96,8 +112,8 @@ def make(seed, number):
     """The lines of the run of this number."""
     rng = random.Random(f"calls {seed} {number}")
     gateways = gateway_list(rng)
-    lines = [" ".join(["gateways"] + [address_text(one) for one in gateways])]
-    if len(gateways) > 4 or len(set(gateways)) < len(gateways) or b"" in gateways:
+    lines = [" ".join(["gateways"] + [station_text(one) for one in gateways])]
+    if len(gateways) > 4 or len({one.named() for one in gateways}) < len(gateways) or b"" in gateways:
         return lines
     world = world_of(rng, gateways)
     for time, frame in scenes.run(rng, world, 60):

@@ -25,6 +25,18 @@ def extended(number):
     return struct.pack(">Q", number)
 
 
+class Station(bytes):
+    """An address under a PAN: a number, or None for a station whose frames carry none."""
+
+    def __new__(cls, address, pan=PAN):
+        station = super().__new__(cls, address)
+        station.pan = pan
+        return station
+
+    def named(self):
+        return bytes(self), self.pan
+
+
 def ip(text):
     return ipaddress.IPv6Address(text).packed
 
@@ -72,27 +84,36 @@ def udp_datagram(src, dst, src_port, dst_port, data, checksum=None, **others):
 
 # --------------------------------------------------------------------------------------------------------- MAC header
 
-def mac(src, dst, sequence=0, pan=PAN, src_pan=None, version=0, compress=True, frame_type=1, security=None,
-        pending=False, ack=False):
-    """A MAC header. `security` is an auxiliary security header (its bytes), or None. Table 7-2 of IEEE 802.15.4 says
-    which PANs go with version 2; before it each address has its PAN, the source's left out by compression."""
-    modes = {0: 0, 2: 2, 8: 3}
-    if src_pan is None:
-        src_pan = pan
+def pans_in(src, dst, version, compress):
+    """Whether a frame carries a destination's and a source's PAN. Table 7-2 of IEEE 802.15.4 says which go with version
+    2; before it each address has its PAN, the source's left out by compression."""
     has_dst, has_src = len(dst) > 0, len(src) > 0
     if version < 2:
-        dst_pan_in, src_pan_in = has_dst, has_src and not (has_dst and compress)
-    else:
-        row = (len(dst) // 4 + has_dst, len(src) // 4 + has_src)       # 0 absent, 1 short, 3 extended
-        dst_pan_in, src_pan_in = {
-            (0, 0): ((False, False), (True, False)),
-            (1, 0): ((True, False), (False, False)), (3, 0): ((True, False), (False, False)),
-            (0, 1): ((False, True), (False, False)), (0, 3): ((False, True), (False, False)),
-            (3, 3): ((True, False), (False, False)),
-            (1, 1): ((True, True), (True, False)),
-            (1, 3): ((True, True), (True, False)),
-            (3, 1): ((True, True), (True, False)),
-        }[row][bool(compress)]
+        return has_dst, has_src and not (has_dst and compress)
+    row = (len(dst) // 4 + has_dst, len(src) // 4 + has_src)       # 0 absent, 1 short, 3 extended
+    return {
+        (0, 0): ((False, False), (True, False)),
+        (1, 0): ((True, False), (False, False)), (3, 0): ((True, False), (False, False)),
+        (0, 1): ((False, True), (False, False)), (0, 3): ((False, True), (False, False)),
+        (3, 3): ((True, False), (False, False)),
+        (1, 1): ((True, True), (True, False)),
+        (1, 3): ((True, True), (True, False)),
+        (3, 1): ((True, True), (True, False)),
+    }[row][bool(compress)]
+
+
+def mac(src, dst, sequence=0, pan=None, src_pan=None, version=0, compress=True, frame_type=1, security=None,
+        pending=False, ack=False):
+    """A MAC header. `security` is an auxiliary security header (its bytes), or None. The PAN is the source's own where
+    none is given."""
+    modes = {0: 0, 2: 2, 8: 3}
+    if pan is None:
+        pan = getattr(src, "pan", None)
+    if pan is None:
+        pan = PAN
+    if src_pan is None:
+        src_pan = pan
+    dst_pan_in, src_pan_in = pans_in(src, dst, version, compress)
     control = frame_type | (security is not None) << 3 | pending << 4 | ack << 5 | bool(compress) << 6
     control |= modes[len(dst)] << 10 | version << 12 | modes[len(src)] << 14
     header = struct.pack("<HB", control, sequence & 0xff)
@@ -268,7 +289,7 @@ def whole(packet, src, dst, header=None, **knobs):
     return (mac(src, dst) if header is None else header) + compressed + packet[covered:]
 
 
-def frames(packet, tag, src, dst, limit=LIMIT, sequence=0, pan=PAN, version=0, compress_pan=True, first_end=None,
+def frames(packet, tag, src, dst, limit=LIMIT, sequence=0, pan=None, version=0, compress_pan=True, first_end=None,
            step=None, **knobs):
     """The frames of a datagram cut into parts."""
     length = len(mac(src, dst, sequence, pan, version=version, compress=compress_pan))

@@ -429,9 +429,15 @@ def expand_alone(payload, link_src, link_dst, contexts, out, size=None):
 
 # --------------------------------------------------------------------------------------------------------- slot table
 
+def sender_of(mac):
+    """02: "the key gains it: the source PAN if the frame carries one, else the destination PAN, else "none"". """
+    pan = mac.dst_pan if mac.src_pan is None else mac.src_pan
+    return (mac.src, pan)
+
+
 @dataclass
 class Slot:
-    key: tuple             # "The key is source, destination, size, tag"
+    key: tuple             # "The key is source, destination, size, tag", the source with its PAN (02)
     opened: int
     parts: list = field(default_factory=list)       # (first byte, length, bytes) of every part taken
     elided: bool = False
@@ -441,9 +447,10 @@ class Table:
     """"The controller lends 16,384 bytes to put them together, eight slots of 2,048, for at most four gateways"."""
 
     def __init__(self, gateways):
-        """"14: gateway list: over four, two equal, or an absent address"."""
-        gateways = [bytes(g) for g in gateways]
-        if len(gateways) > MOST_GATEWAYS or len(set(gateways)) != len(gateways) or ABSENT in gateways:
+        """"14: gateway list: over four, two equal, or an absent address"; 02: "Two gateways are equal in the sense of 14
+        only if address and PAN agree". Each is an address and a PAN, or None for none."""
+        addresses = [address for address, pan in gateways]
+        if len(gateways) > MOST_GATEWAYS or len(set(gateways)) != len(gateways) or ABSENT in addresses:
             raise Refused(14)
         self.gateways = gateways
         self.last = 0                               # "A fresh table's last time is 0"
@@ -472,7 +479,7 @@ class Table:
         if mac.secured or mac.frame_type != 1:
             raise Refused(13)
         mac = through_relays(mac, frame)
-        if mac.src not in self.gateways:
+        if sender_of(mac) not in self.gateways:
             raise Refused(9)
         if mac.dst == ABSENT:
             raise Refused(6)
@@ -504,7 +511,7 @@ class Table:
         if len(data) % 8 != 0 and end != fragment.size:
             raise Refused(10)
 
-        key = (mac.src, mac.dst, fragment.size, fragment.tag)
+        key = (sender_of(mac), mac.dst, fragment.size, fragment.tag)
         s = self.find(key)
         if s is None:
             s = self.open(key, time)
@@ -629,10 +636,10 @@ def answer_text(answer):
 
 
 def heard(capture):
-    """The lines of `heard`: "gateways short 0001 to 0004, no contexts. One line per frame: `n out L`, `n kept` or
+    """The lines of `heard` (02: "`heard` lists its four under PAN abcd"): "gateways short 0001 to 0004, no contexts. One line per frame: `n out L`, `n kept` or
     `n no R`; a bad block b gives `block b no 15`; last `end` and the count of frame lines." "Anything else is 15, and
     reading stops"."""
-    table = Table([bytes([0, n]) for n in (1, 2, 3, 4)])
+    table = Table([(bytes([0, n]), 0xabcd) for n in (1, 2, 3, 4)])
     mem, out = bytearray(LENT_BYTES), bytearray(OUTPUT_BYTES)
     lines, count = [], 0
     for number in range((len(capture) + BLOCK - 1) // BLOCK):
@@ -656,8 +663,21 @@ def parse_address(text):
     raise ValueError(text)
 
 
+def parse_gateway(text):
+    """An address, and behind an @ its PAN; none without."""
+    address, at, pan = text.partition("@")
+    if at and not re.fullmatch("[0-9a-f]{4}", pan):
+        raise ValueError(text)
+    return (parse_address(address), int(pan, 16) if at else None)
+
+
 def address_text(address):
     return {0: "a", 2: "s", 8: "e"}[len(address)] + address.hex()
+
+
+def sender_text(sender):
+    address, pan = sender
+    return address_text(address) if pan is None else f"{address_text(address)}@{pan:04x}"
 
 
 def parse_bytes(text):
@@ -680,7 +700,7 @@ def slots_text(table):
     for s, slot in enumerate(table.slots):
         if slot:
             src, dst, size, tag = slot.key
-            texts.append(f"{s}:{address_text(src)},{address_text(dst)},{size:04x},{tag:04x},{slot.opened}")
+            texts.append(f"{s}:{sender_text(src)},{address_text(dst)},{size:04x},{tag:04x},{slot.opened}")
     return " ".join(texts)
 
 
@@ -699,7 +719,7 @@ class TableLines:
         try:
             words = line.split(" ")
             if words[0] == "gateways" and self.table is None:
-                return self.gateways([parse_address(word) for word in words[1:]])
+                return self.gateways([parse_gateway(word) for word in words[1:]])
             if words[0] == "call" and len(words) == 6 and self.table is not None:
                 return self.call(parse_number(words[1], 2 ** 64 - 1), parse_bytes(words[2]), parse_bytes(words[3]),
                                  parse_number(words[4], self.MOST_ROOM), parse_number(words[5], self.MOST_ROOM))
@@ -773,10 +793,10 @@ def check():
     assert alone("7e33f712aabb", 60, 50)[1][46:50].hex() == "0000aabb"
 
     lines = TableLines()
-    assert lines.answer("gateways s0001") == "ok"
+    assert lines.answer("gateways s0001@abcd") == "ok"
     part = "418805cdabffff0100e030000705" + "00" * 8
-    assert lines.answer(f"call 0 {part} - 16384 2047") == "kept | 0:s0001,sffff,0030,0007,0"
-    assert lines.answer("call 59999 - - 16384 2047") == "no 1 | 0:s0001,sffff,0030,0007,0"
+    assert lines.answer(f"call 0 {part} - 16384 2047") == "kept | 0:s0001@abcd,sffff,0030,0007,0"
+    assert lines.answer("call 59999 - - 16384 2047") == "no 1 | 0:s0001@abcd,sffff,0030,0007,0"
     assert lines.answer("call 60000 - - 16384 2047") == "no 1 |"
 
     assert fcs(bytes.fromhex("02006a")).to_bytes(2, "little").hex() == "e479"

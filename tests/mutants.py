@@ -424,20 +424,20 @@ MUTANTS = [
     ("9 before 13", BOTH,
      "        if mac.secured or mac.frame_type != 1:\n"
      "            raise Refused(13)\n"
-     "        if mac.src not in self.gateways:\n"
+     "        if sender_of(mac) not in self.gateways:\n"
      "            raise Refused(9)\n",
-     "        if mac.src not in self.gateways:\n"
+     "        if sender_of(mac) not in self.gateways:\n"
      "            raise Refused(9)\n"
      "        if mac.secured or mac.frame_type != 1:\n"
      "            raise Refused(13)\n"),
     ("6 before 9", BOTH,
-     "        if mac.src not in self.gateways:\n"
+     "        if sender_of(mac) not in self.gateways:\n"
      "            raise Refused(9)\n"
      "        if mac.dst == ABSENT:\n"
      "            raise Refused(6)\n",
      "        if mac.dst == ABSENT:\n"
      "            raise Refused(6)\n"
-     "        if mac.src not in self.gateways:\n"
+     "        if sender_of(mac) not in self.gateways:\n"
      "            raise Refused(9)\n"),
     ("dispatch before 6", BOTH,
      "        if mac.dst == ABSENT:\n"
@@ -505,10 +505,10 @@ MUTANTS = [
     ("five gateways", CALLS, "MOST_GATEWAYS = 4 ", "MOST_GATEWAYS = 5 "),
     ("three gateways", CALLS, "MOST_GATEWAYS = 4 ", "MOST_GATEWAYS = 3 "),
     ("two equal gateways", CALLS, " or len(set(gateways)) != len(gateways)", ""),
-    ("an absent gateway", CALLS, " or ABSENT in gateways", ""),
+    ("an absent gateway", CALLS, " or ABSENT in addresses", ""),
     ("short and extended of one number are equal", CALLS,
      "len(set(gateways))",
-     "len(set(int.from_bytes(g, 'big') for g in gateways))"),
+     "len(set(int.from_bytes(a, 'big') for a, pan in gateways))"),
 
     # Captures.
     ("frame check not tested", CAPTURES,

@@ -86,6 +86,8 @@ class Sent:
             self.datagram = self.datagram[:46] + struct.pack(">H", right) + self.datagram[48:]
             compressed, covered = f.compress(self.datagram, src, dst, **k)
         version, compress_pan = rng.choice((0, 1, 2)), rng.random() < 0.8
+        if not any(f.pans_in(src, dst, version, compress_pan)):
+            compress_pan = False                # the gateways are listed under a PAN
 
         def head(sequence):
             return f.mac(src, dst, sequence, version=version, compress=compress_pan)
@@ -130,7 +132,7 @@ def datagrams_shown(pieces, one):
 
 def by_program(program, order):
     """What the program `calls` answers to each frame: the datagram that it hands out, or the words."""
-    lines = ["gateways " + " ".join(model.address_text(one) for one in GATEWAYS)]
+    lines = ["gateways " + " ".join(model.sender_text((one, f.PAN)) for one in GATEWAYS)]
     lines += [f"call {i} {frame.hex()} {b''.join(CONTEXTS).hex()} 16384 2047" for i, (_, frame) in enumerate(order)]
     done = subprocess.run([program], input="\n".join(lines).encode() + b"\n", stdout=subprocess.PIPE, check=True)
     answers = [line.split(" |")[0] for line in done.stdout.decode().split("\n")[:-1]]

@@ -19,8 +19,9 @@ class World:
 
 
 def heard_world():
-    return World([f.short(n) for n in (1, 2, 3, 4)],
-                 [f.short(0x1234), f.short(0x0005), f.short(0x0100), f.extended(1), f.extended(0x0011223344556677)],
+    return World([f.Station(f.short(n)) for n in (1, 2, 3, 4)],
+                 [f.short(0x1234), f.short(0x0005), f.short(0x0100), f.extended(1), f.extended(0x0011223344556677),
+                  f.Station(f.short(1), 0xabce), f.Station(f.short(2), 0xffff)],
                  [f.BROADCAST, f.short(0xabcd), f.extended(0x0011223344556677), f.short(0x0001)])
 
 
@@ -108,10 +109,18 @@ def size_of(rng, most):
 
 def header(rng, src, dst, sequence=None):
     """A MAC header of any allowed form with these two addresses."""
-    version = rng.choice((0, 0, 0, 1, 1, 2))
-    compress = chance(rng, 0.8) and not (version < 2 and not src and not dst)
-    return f.mac(src, dst, rng.randrange(256) if sequence is None else sequence, rng.choice((0xabcd, 0xffff, 1)),
-                 rng.choice((None, 0x1234)), version, compress, pending=chance(rng, 0.05), ack=chance(rng, 0.1))
+    wanted = getattr(src, "pan", f.PAN) if chance(rng, 0.97) else rng.choice((f.PAN, 0xffff, 1, None))
+    for _ in range(20):
+        version = rng.choice((0, 0, 0, 1, 1, 2, 2))
+        compress = chance(rng, 0.8) and not (version < 2 and not src and not dst)
+        dst_in, src_in = f.pans_in(src, dst, version, compress)
+        # the sender's PAN is the source's where the frame carries one, else the destination's, else none
+        if (wanted is None) == (not dst_in and not src_in):
+            break
+    own = f.PAN if wanted is None else wanted
+    other = rng.choice((own, 0xffff, 1, 0x1234)) if src_in else own
+    return f.mac(src, dst, rng.randrange(256) if sequence is None else sequence, other, own, version, compress,
+                 pending=chance(rng, 0.05), ack=chance(rng, 0.1))
 
 
 def room(src, dst):

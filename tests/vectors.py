@@ -97,11 +97,18 @@ def gateway_lists(s):
     s.plain("gateways e0011223344556677 e0011223344556677", "no 14")
     s.plain("gateways a", "no 14")
     s.plain("gateways s0001 a s0002", "no 14")
+    s.remark("Two gateways are equal only if address and PAN agree; an absent address is refused under a PAN too")
+    s.plain("gateways s0001@abcd s0001@abcd", "no 14")
+    s.plain("gateways s0001 s0001@abcd s0001", "no 14")
+    s.plain("gateways s0001@abcd a@abcd", "no 14")
     s.remark("Lines that are no list of gateways, the list, and a second one")
+    for line in ("gateways s0001@", "gateways s0001@abc", "gateways s0001@abcde", "gateways s0001@abcg", "gateways @abcd",
+                 "gateways s0001@ABCD", "gateways s0001 @abcd", "gateways s0001@abcd@abcd", "gateways s0001@abcd "):
+        s.plain(line, "bad")
     for line in ("gateways s001", "gateways s00011", "gateways e001122334455667", "gateways x0001", "gateways s0001 ",
                  "gateways  s0001", "gateways s000g", "gateways S0001", "gateways n", "gateway s0001", ""):
         s.plain(line, "bad")
-    s.plain("gateways " + " ".join(model.address_text(one) for one in peer.GATEWAYS), "ok")
+    s.plain("gateways " + " ".join(model.sender_text((one, f.PAN)) for one in peer.GATEWAYS), "ok")
     s.plain("gateways s0001", "bad")
     s.remark("Lines that are no call")
     for line in ("call", "call 1 - - 16384", "call 1 - - 16384 2047 ", "call 1 - - 16384 2047 0", "call x - - 16384 2047",
@@ -140,6 +147,29 @@ def whole_frames(s):
     alike = f.datagram(f.ip("fe80::ff:fe00:1234"), f.link_local(CONTROLLER), 58, b"")
     s.call(0, from_to(FOUR, CONTROLLER, "7a333a"), alike, "")
     s.call(0, from_to(STRANGER, CONTROLLER, "7a333a"), 9, "")
+
+
+def pans(s):
+    """02: "the source PAN if the frame carries one, else the destination PAN, else "none""; the gateways are listed under
+    PAN abcd."""
+    iphc, eight = hexed("7a333a01020304"), f.extended(0x0011223344556677)
+    shown = f.datagram(f.link_local(ONE), f.link_local(CONTROLLER), 58, hexed("01020304"))
+
+    def heard(answer, source=ONE, destination=CONTROLLER, **header):
+        s.call(0, f.mac(source, destination, **header) + iphc, answer, "")
+    s.remark("The destination's PAN where the frame carries no other: abcd, then its neighbours, ffff and 0")
+    heard(shown, pan=0xabcd)
+    for pan in (0xabce, 0xabcc, 0xcdab, 0xffff, 0):
+        heard(9, pan=pan)
+    s.remark("The source's PAN where the frame carries one, whatever the destination's is")
+    for version in (0, 1, 2):
+        heard(shown, pan=0x1234, src_pan=0xabcd, compress=False, version=version)
+        heard(shown, pan=0xffff, src_pan=0xabcd, compress=False, version=version)
+        heard(9, pan=0xabcd, src_pan=0x1234, compress=False, version=version)
+        heard(9, pan=0xabcd, src_pan=0xffff, compress=False, version=version)
+    s.remark("None: version 2, both addresses extended, compressed. It is no gateway's PAN")
+    heard(9, THREE, eight, version=2)
+    heard(f.datagram(f.link_local(THREE), f.link_local(eight), 58, hexed("01020304")), THREE, eight, version=2, compress=False)
 
 
 def mac_refusals(s):
@@ -402,7 +432,8 @@ def hand_made():
     s = Script()
     for line in HEAD:
         s.plain(line, line)
-    for part in (gateway_lists, whole_frames, mac_refusals, rooms_and_times, ageing, bad_parts, clashes, slots, keys, checksums):
+    for part in (gateway_lists, whole_frames, pans, mac_refusals, rooms_and_times, ageing, bad_parts, clashes, slots, keys,
+                 checksums):
         part(s)
     return s
 

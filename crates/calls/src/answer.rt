@@ -4,6 +4,7 @@ use reassembly::Key;
 use reassembly::Node;
 use reassembly::Outcome;
 use reassembly::Slot;
+use reassembly::Source;
 use reassembly::Table;
 use text::field;
 use text::print;
@@ -41,6 +42,17 @@ fn address(out: &mut [u8], to: usize, before: u8, a: Node) -> usize {
     print::put(out, n, b'a')
 }
 
+// Who sends: an address, and behind an @ its PAN, where it has one.
+fn source(out: &mut [u8], to: usize, s: Source) -> usize {
+    let node = s.node;
+    let n = address(out, to, b':', node);
+    if s.pan == 0 {
+        return n;
+    }
+    let m = print::put(out, n, b'@');
+    print::hex(out, m, s.pan - 1, 4)
+}
+
 // A number of 16 bits.
 fn word(out: &mut [u8], to: usize, x: u16) -> usize {
     let n = print::put(out, to, b',');
@@ -50,7 +62,7 @@ fn word(out: &mut [u8], to: usize, x: u16) -> usize {
 fn key(out: &mut [u8], to: usize, k: Key) -> usize {
     let src = k.src;
     let dst = k.dst;
-    let n = address(out, to, b':', src);
+    let n = source(out, to, src);
     let m = address(out, n, b',', dst);
     let l = word(out, m, k.size);
     word(out, l, k.tag)

@@ -3,12 +3,19 @@ use super::answer;
 use super::fields;
 use check::same;
 use ieee802154::Address;
+use ieee802154::PanField;
+use reassembly::Gateway;
 use reassembly::Listed;
 use reassembly::Table;
 use receiver::receive;
 use text::field;
 use text::line::find;
 use text::print;
+
+const NO_GATEWAY: Gateway = Gateway {
+    addr: Address::Absent,
+    pan: PanField::None,
+};
 
 // The table, once a list of gateways was taken.
 pub struct Session {
@@ -47,7 +54,8 @@ impl Request {
 impl Session {
     // There is no table yet.
     pub fn start() -> Session {
-        let f = Table::new([Address::Absent; 4], 0);
+        let none = NO_GATEWAY;
+        let f = Table::new([none; 4], 0);
         let table = f.table;
         Session { table, made: false }
     }
@@ -60,20 +68,21 @@ fn bad(session: Session, out: &mut [u8], to: usize) -> Done {
     }
 }
 
-// `gateways ADDR ADDR ..`: the table is made. Past the fourth address only how many there are counts, so any seat does for them.
+// `gateways GATEWAY GATEWAY ..`: the table is made. Past the fourth only how many there are counts, so any seat does for them.
 fn gateways(line: &[u8], from: usize, session: Session, out: &mut [u8], to: usize) -> Done {
-    let mut all = [Address::Absent; 4];
+    let none = NO_GATEWAY;
+    let mut all = [none; 4];
     let mut count: usize = 0;
     let mut next = from;
     while count <= line.len() {
         if line.len() < next {
             break;
         }
-        let a = fields::link(line, next);
-        let address = a.value;
-        all[count % 4] = address;
+        let g = fields::gateway(line, next);
+        let gateway = g.value;
+        all[count % 4] = gateway;
         count += 1;
-        next = a.next;
+        next = g.next;
     }
     if session.made {
         return bad(session, out, to);

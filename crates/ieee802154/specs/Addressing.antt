@@ -1,5 +1,5 @@
 -- The addressing fields (IEEE 802.15.4, 7.2.4 to 7.2.7): the destination's PAN identifier and address, and the source's; the low byte first.
-use Prim.Native.Nat.{ℕ}
+use Prim.Native.Nat.{ℕ, _+_}
 use mathlib.Core.List.{List, []}
 use mathlib.Core.Bool.{Bool}
 use lib.Dec.{eqb}
@@ -81,6 +81,11 @@ unfoldable pub addressing : Control → Reader Addressing
 addressing k =
     branch (hasAddressing k) (sides (carried k) (k .«dst_addr_mode») (k .«src_addr_mode»))
     (give (record { dst = noSide; src = noSide }))
+
+-- ---- a PAN or none as one number: none is 0, and no PAN is
+abbrev pub panNumber : PanField → ℕ
+panNumber PanField.None = 0
+panNumber (PanField.Some x) = x .0 + 1
 
 -- ---- writing: a missing PAN identifier as 0, nothing of an address that is absent or missing
 abbrev pub panOr : PanField → ℕ

@@ -4,7 +4,7 @@ ghost use mathlib.Core.Bool.{not};
 ghost use Prim.Native.Nat.{_≤_};
 ghost use Rattle.octets.specs.Write.{put, ofWritten, wrote, over, le16Bytes};
 ghost use Rattle.ieee802154.specs.Address.{ofAddress, ofEui, ofLinkLocal, isBroadcast, fromBytes, eui64, linkLocalOf, addressLength, addressBytes};
-ghost use Rattle.ieee802154.specs.Addressing.{panOr, fieldLength, modeOf, fieldBytes};
+ghost use Rattle.ieee802154.specs.Addressing.{panOr, panNumber, fieldLength, modeOf, fieldBytes};
 use super::control::AddressingMode;
 use octets::cursor::Cursor;
 use octets::cursor::LongRead;
@@ -22,6 +22,13 @@ pub struct Pan(pub u16);
 
 impl Pan {
     pub const BROADCAST: Pan = Pan(0xffff);
+
+    // The identifier as a number, where a PAN is held as one.
+    pub fn number(self) -> u64
+        ensures { λ r. ⌜ (r ≡ self .0) × (r ≤ 65535) ⌝ }
+    {
+        self.0 as u64
+    }
 
     // Writes its two bytes as a header has them, the low one first.
     pub fn emit_bytes(self, buf: &mut [u8]) -> Written
@@ -180,6 +187,16 @@ impl PanField {
         match self {
             PanField::None => Pan(0),
             PanField::Some(x) => x,
+        }
+    }
+
+    // A PAN or none as one number: none is 0, and no PAN is.
+    pub fn number(self) -> u64
+        ensures { λ r. ⌜ r ≡ panNumber self ⌝ }
+    {
+        match self {
+            PanField::None => 0,
+            PanField::Some(x) => x.number() + 1,
         }
     }
 }

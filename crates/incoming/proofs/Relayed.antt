@@ -58,11 +58,11 @@ module _ (s : List ℕ) where
     direct f = rw (e, relay-none s (a .at) f) refl
 
     module _ (r : Relay) (n : ℕ) (f : relay s (a .at) ≡ got r n) where
-      pub meshed : (m : Mesh) → r .mesh ≡ MeshField.Some m → arrival s ≡ is (record { src = m .origin; dst = m .destination; at = n })
+      pub meshed : (m : Mesh) → r .mesh ≡ MeshField.Some m → arrival s ≡ is (record { src = m .origin; pan = a .pan; dst = m .destination; at = n })
       unfolding arrival
       meshed m g = rw (e, f, g) refl
 
       -- a broadcast header alone leaves the addresses
-      pub not-meshed : r .mesh ≡ MeshField.None → arrival s ≡ is (record { src = a .src; dst = a .dst; at = n })
+      pub not-meshed : r .mesh ≡ MeshField.None → arrival s ≡ is (record { src = a .src; pan = a .pan; dst = a .dst; at = n })
       unfolding arrival
       not-meshed g = rw (e, f, g) refl

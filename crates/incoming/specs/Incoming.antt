@@ -13,6 +13,7 @@ use Rattle.ieee802154.specs.Mac.{mac}
 use Rattle.ieee802154.specs.declared.addr.Address.{Address}
 use Rattle.ieee802154.specs.declared.addr.Address.the-variants.{Absent}
 use Rattle.ieee802154.specs.declared.addr.AddressField.{AddressField}
+use Rattle.ieee802154.specs.declared.addr.PanField.{PanField}
 use Rattle.ieee802154.specs.declared.header.Repr as Mac
 use Rattle.relay.specs.Headers.{relay}
 use Rattle.relay.specs.declared.mesh.MeshField.{MeshField}
@@ -36,8 +37,18 @@ abbrev pub addressOf : AddressField → Address
 addressOf AddressField.None = Absent
 addressOf (AddressField.Some a) = a
 
+-- the PAN that a sender is told apart by: its own if the frame carries one, else the destination's, else none
+abbrev pub panOf : PanField → PanField → PanField
+panOf (PanField.Some p) d = PanField.Some p
+panOf PanField.None d = d
+
 abbrev pub arrivalOf : Mac.Repr → ℕ → Arrival
-arrivalOf h n = record { src = addressOf (h .«src_addr»); dst = addressOf (h .«dst_addr»); at = n }
+arrivalOf h n = record {
+  src = addressOf (h .«src_addr»);
+  pan = panOf (h .«src_pan_id») (h .«dst_pan_id»);
+  dst = addressOf (h .«dst_addr»);
+  at = n;
+}
 
 -- the MAC header's refusals; then 13: secured, or not a Data frame
 unfoldable pub framed : List ℕ → Answer Arrival
@@ -46,10 +57,10 @@ framed s =
     (λ p. choose (p .value .«security_enabled») (refused 13)
     (choose (eqb (p .value .«frame_type» .0) 1) (is (arrivalOf (p .value) (p .next))) (refused 13)))
 
--- where a mesh header stands, its originator and final address take the place of the MAC addresses
+-- where a mesh header stands, its originator and final address take the place of the MAC addresses; the PAN is still the MAC header's
 abbrev pub through : Arrival → MeshField → ℕ → Arrival
-through a MeshField.None n = record { src = a .src; dst = a .dst; at = n }
-through a (MeshField.Some m) n = record { src = m .origin; dst = m .destination; at = n }
+through a MeshField.None n = record { src = a .src; pan = a .pan; dst = a .dst; at = n }
+through a (MeshField.Some m) n = record { src = m .origin; pan = a .pan; dst = m .destination; at = n }
 
 -- then the refusals of mesh and broadcast headers, behind which the payload begins
 unfoldable pub arrival : List ℕ → Answer Arrival

@@ -1,8 +1,9 @@
 // A frame's MAC header, judged, and the relays' headers behind it.
 ghost use mathlib.Core.Path.{_≡_};
-ghost use Rattle.incoming.specs.Incoming.{ofArrival, addressOf, arrivalOf, framed, through, arrival};
+ghost use Rattle.incoming.specs.Incoming.{ofArrival, addressOf, panOf, arrivalOf, framed, through, arrival};
 use ieee802154::Address;
 use ieee802154::AddressField;
+use ieee802154::PanField;
 use ieee802154::Parsed;
 use ieee802154::Repr;
 use octets::cursor::Cursor;
@@ -11,9 +12,10 @@ use relay::MeshField;
 use relay::Relay;
 use relay::RelayRead;
 
-// Who sends a frame to whom, and where its payload begins.
+// Who sends a frame to whom, the sender's PAN, and where the payload begins.
 pub struct Arrival {
     pub src: Address,
+    pub pan: PanField,
     pub dst: Address,
     pub at: usize,
 }
@@ -33,15 +35,28 @@ fn address_of(a: AddressField) -> Address
     }
 }
 
+// The PAN that a sender is told apart by: its own if the frame carries one, else the destination's, else none.
+fn pan_of(src: PanField, dst: PanField) -> PanField
+    ensures { λ r. ⌜ r ≡ panOf src dst ⌝ }
+{
+    match src {
+        PanField::None => dst,
+        PanField::Some(p) => PanField::Some(p),
+    }
+}
+
 impl Arrival {
     fn of(mac: Repr, at: usize) -> Arrival
         ensures { λ r. ⌜ r ≡ arrivalOf mac at ⌝ }
     {
         let s = mac.src_addr;
         let d = mac.dst_addr;
+        let sp = mac.src_pan_id;
+        let dp = mac.dst_pan_id;
         let src = address_of(s);
         let dst = address_of(d);
-        Arrival { src, dst, at }
+        let pan = pan_of(sp, dp);
+        Arrival { src, pan, dst, at }
     }
 
     // The refusals of the MAC header, and then 13: secured, or not a Data frame.
@@ -65,16 +80,17 @@ impl Arrival {
     fn through(self, mesh: MeshField, at: usize) -> Arrival
         ensures { λ r. ⌜ r ≡ through self mesh at ⌝ }
     {
+        let pan = self.pan;
         match mesh {
             MeshField::None => {
                 let src = self.src;
                 let dst = self.dst;
-                Arrival { src, dst, at }
+                Arrival { src, pan, dst, at }
             }
             MeshField::Some(m) => {
                 let src = m.origin;
                 let dst = m.destination;
-                Arrival { src, dst, at }
+                Arrival { src, pan, dst, at }
             }
         }
     }

@@ -10,19 +10,17 @@ use lib.Dec.{eqb}
 use Rattle.octets.specs.Read.{choose}
 use Rattle.octets.specs.Refusal.{numberOf}
 use Rattle.octets.specs.declared.refusal.Refusal.{Refusal}
-use Rattle.ieee802154.specs.declared.addr.Address.{Address}
-use Rattle.ieee802154.specs.declared.addr.Address.the-variants.{Absent}
-use Rattle.reassembly.specs.Slots.{nodeOf}
-use Rattle.reassembly.specs.Fresh.{nodes, refusedList, fresh, Gateways, Begins}
+use Rattle.reassembly.specs.Fresh.{gateOf, sources, refusedList, fresh, Gateways, Begins}
 use Rattle.reassembly.specs.declared.table.Table.{Table}
 use Rattle.reassembly.specs.declared.table.Listed.{Listed}
+use Rattle.reassembly.specs.declared.table.Gateway.{Gateway}
 use Rattle.reassembly.proofs.Tests.{by-test, by-order}
-use Rattle.reassembly.proofs.Fresh.{accepted, nodes-are, refuses-long, not-long, when-fit, when-accepted, when-refused}
-use Rattle.lift.specs.Face.{addressOf, addresses, addressAt, gateways, refusesList, begun, tableBegun}
+use Rattle.reassembly.proofs.Fresh.{accepted, sources-are, refuses-long, not-long, when-fit, when-accepted, when-refused}
+use Rattle.lift.specs.Face.{noGateway, gatewayOf, listed, gatewayAt, gateways, refusesList, begun, tableBegun}
 
 -- ---- two numbers each
-pub at-in : (l : List ℕ) (i : ℕ) → i * 2 + 1 < length l → addressAt l i ≡ addressOf (getD l (i * 2) 0) (getD l (i * 2 + 1) 0)
-unfolding addressAt addresses
+pub at-in : (l : List ℕ) (i : ℕ) → i * 2 + 1 < length l → gatewayAt l i ≡ gatewayOf (getD l (i * 2) 0) (getD l (i * 2 + 1) 0)
+unfolding gatewayAt listed
 at-in [] i h = absurd (omega (arith, h))
 at-in (k ∷ []) i h = absurd (omega (arith, h))
 at-in (k ∷ n ∷ l) zero h = refl
@@ -31,22 +29,22 @@ at-in (k ∷ n ∷ l) (suc i) h =
     let f : suc (suc (i * 2)) + 1 ≡ suc (suc (i * 2 + 1)) = omega arith in
     rw (e, f) (at-in l i (omega (arith, h)))
 
-pub at-out : (l : List ℕ) (i : ℕ) → length l ≤ i * 2 + 1 → addressAt l i ≡ Absent
-unfolding addressAt addresses
+pub at-out : (l : List ℕ) (i : ℕ) → length l ≤ i * 2 + 1 → gatewayAt l i ≡ noGateway
+unfolding gatewayAt listed
 at-out [] i h = refl
 at-out (k ∷ []) zero h = refl
 at-out (k ∷ []) (suc i) h = refl
 at-out (k ∷ n ∷ l) zero h = absurd (omega (arith, h))
 at-out (k ∷ n ∷ l) (suc i) h = at-out l i (omega (arith, h))
 
-pub how-many : (l : List ℕ) → length l / 2 + length l % 2 ≡ length (addresses l)
-unfolding addresses
+pub how-many : (l : List ℕ) → length l / 2 + length l % 2 ≡ length (listed l)
+unfolding listed
 how-many [] = refl
 how-many (k ∷ []) = refl
 how-many (k ∷ n ∷ l) = let e = how-many l in omega (arith, e)
 
 -- ---- four at most
-four : (l : List Address) (d : Address) → length l ≤ 4 → take (length l) (getD l 0 d ∷ getD l 1 d ∷ getD l 2 d ∷ getD l 3 d ∷ []) ≡ l
+four : (l : List Gateway) (d : Gateway) → length l ≤ 4 → take (length l) (getD l 0 d ∷ getD l 1 d ∷ getD l 2 d ∷ getD l 3 d ∷ []) ≡ l
 four [] d h = refl
 four (a ∷ []) d h = refl
 four (a ∷ b ∷ []) d h = refl
@@ -54,19 +52,19 @@ four (a ∷ b ∷ c ∷ []) d h = refl
 four (a ∷ b ∷ c ∷ e ∷ []) d h = refl
 four (a ∷ b ∷ c ∷ e ∷ f ∷ l) d h = absurd (omega (arith, h))
 
-pub four-is : (l : List ℕ) (a b c d : Address) → a ≡ addressAt l 0 → b ≡ addressAt l 1 → c ≡ addressAt l 2 → d ≡ addressAt l 3 → (a ∷ b ∷ c ∷ d ∷ []) ≡ (addressAt l 0 ∷ addressAt l 1 ∷ addressAt l 2 ∷ addressAt l 3 ∷ [])
+pub four-is : (l : List ℕ) (a b c d : Gateway) → a ≡ gatewayAt l 0 → b ≡ gatewayAt l 1 → c ≡ gatewayAt l 2 → d ≡ gatewayAt l 3 → (a ∷ b ∷ c ∷ d ∷ []) ≡ (gatewayAt l 0 ∷ gatewayAt l 1 ∷ gatewayAt l 2 ∷ gatewayAt l 3 ∷ [])
 four-is l a b c d p q r s = rw (p, q, r, s) refl
 
-module _ (l : List ℕ) (four-of : List Address) (n : ℕ) (are : four-of ≡ addressAt l 0 ∷ addressAt l 1 ∷ addressAt l 2 ∷ addressAt l 3 ∷ []) (many : n ≡ length (addresses l)) where
-  same-nodes : n ≤ 4 → nodes n four-of ≡ gateways l
-  unfolding gateways addressAt
-  same-nodes h = nodes-are n four-of ∙ rw (are, many) (ap (map nodeOf) (four (addresses l) Absent (omega (arith, h, many))))
+module _ (l : List ℕ) (four-of : List Gateway) (n : ℕ) (are : four-of ≡ gatewayAt l 0 ∷ gatewayAt l 1 ∷ gatewayAt l 2 ∷ gatewayAt l 3 ∷ []) (many : n ≡ length (listed l)) where
+  same-sources : n ≤ 4 → sources n four-of ≡ gateways l
+  unfolding gateways gatewayAt
+  same-sources h = sources-are n four-of ∙ rw (are, many) (ap (map gateOf) (four (listed l) noGateway (omega (arith, h, many))))
 
-  same-refusal : refusedList n (nodes n four-of) ≡ refusesList l
+  same-refusal : refusedList n (sources n four-of) ≡ refusesList l
   unfolding refusesList
   same-refusal =
-      by-order n 4 (λ h. rw (same-nodes h) (ap (λ z. refusedList z (gateways l)) many))
-      (λ h. refuses-long n (nodes n four-of) h ∙ sym (rw (sym many) (refuses-long n (gateways l) h)))
+      by-order n 4 (λ h. rw (same-sources h) (ap (λ z. refusedList z (gateways l)) many))
+      (λ h. refuses-long n (sources n four-of) h ∙ sym (rw (sym many) (refuses-long n (gateways l) h)))
 
   module _ (x : Table) (y : Listed) (b : Begins y x n four-of) where
     pub begun-list : y ≡ Listed.Accepted → (0 ≡ begun l) × ((t : Table) → choose (eqb 0 0) x t ≡ tableBegun t l)
@@ -74,7 +72,7 @@ module _ (l : List ℕ) (four-of : List Address) (n : ℕ) (are : four-of ≡ ad
     begun-list e =
         let h = when-accepted n four-of y x b e in
         let k : refusesList l ≡ false = sym same-refusal ∙ h in
-        (rw k refl, λ t. rw k (when-fit n four-of y x b h ∙ ap fresh (same-nodes (not-long n (nodes n four-of) h))))
+        (rw k refl, λ t. rw k (when-fit n four-of y x b h ∙ ap fresh (same-sources (not-long n (sources n four-of) h))))
 
     pub refused-list : (r : Refusal) → y ≡ Listed.Refused r → (j : ℕ) → j ≡ numberOf r → (j ≡ begun l) × ((t : Table) → choose (eqb j 0) x t ≡ tableBegun t l)
     unfolding begun tableBegun
@@ -87,8 +85,8 @@ module _ (l : List ℕ) (four-of : List Address) (n : ℕ) (are : four-of ≡ ad
 fit-list : (l : List ℕ) → refusesList l ≡ false → Gateways (gateways l)
 unfolding refusesList gateways
 fit-list l k =
-    let a = addresses l in
-    let e : nodes (length a) a ≡ map nodeOf a = nodes-are (length a) a ∙ ap (map nodeOf) (take-length a) in
+    let a = listed l in
+    let e : sources (length a) a ≡ map gateOf a = sources-are (length a) a ∙ ap (map gateOf) (take-length a) in
     rw e at (accepted (length a) a (omega arith) (rw e k))
 
 pub begun-fresh : (l : List ℕ) → begun l ≡ 0 → ((t : Table) → tableBegun t l ≡ fresh (gateways l)) × Gateways (gateways l)

@@ -1,19 +1,21 @@
 -- What crosses the boundary to C, as numbers: answers and gateways.
-use Prim.Native.Nat.{ℕ, _+_, _≤_}
+use Prim.Native.Nat.{ℕ, _+_, _-_, _/_, _%_, _≤_}
 use mathlib.Core.Path.{_≡_}
 use mathlib.Core.Bool.{Bool}
 use mathlib.Core.List.{List, [], _∷_, map}
 use lib.ListN.{length, getD}
-use lib.Dec.{eqb, ltb}
+use lib.Dec.{eqb, ltb, leb}
 use Rattle.octets.specs.Read.{choose}
 use Rattle.ieee802154.specs.declared.addr.Address.{Address}
 use Rattle.ieee802154.specs.declared.addr.Address.the-variants.{Absent, Short, Extended}
-use Rattle.reassembly.specs.Slots.{nodeOf, gatesOf}
+use Rattle.ieee802154.specs.declared.addr.PanField.{PanField}
+use Rattle.reassembly.specs.Slots.{gatesOf}
 use Rattle.reassembly.specs.Parts.{Reply, kept, out, refused, told, outputAfter}
 use Rattle.reassembly.specs.Table.{Result, step}
-use Rattle.reassembly.specs.Fresh.{refusedList, fresh}
-use Rattle.reassembly.specs.declared.slot.Node.{Node}
+use Rattle.reassembly.specs.Fresh.{gateOf, refusedList, fresh}
+use Rattle.reassembly.specs.declared.slot.Source.{Source}
 use Rattle.reassembly.specs.declared.table.Table.{Table}
+use Rattle.reassembly.specs.declared.table.Gateway.{Gateway}
 use Rattle.receiver.specs.Receive.{callOf}
 
 -- ---- an answer as one number: its kind in the high half (0 kept, 1 a datagram, 2 refused), and in the low half the datagram's length
@@ -33,22 +35,34 @@ InHalf (refused n) = Unit {0}
 unfoldable pub addressOf : ℕ → ℕ → Address
 addressOf k n = choose (eqb k 1) (choose (ltb n 65536) (Short n) Absent) (choose (eqb k 2) (Extended n) Absent)
 
--- two numbers for each gateway; a last one alone is no address
-unfoldable pub addresses : List ℕ → List Address
-addresses [] = []
-addresses (k ∷ []) = Absent ∷ []
-addresses (k ∷ n ∷ l) = addressOf k n ∷ addresses l
+-- a PAN as one number: 0 is none, and every PAN one more than its identifier
+unfoldable pub panFrom : ℕ → PanField
+panFrom n = choose (eqb n 0) PanField.None (PanField.Some (record { 0 = n - 1 }))
 
--- the i-th of them, absent where there is none
-unfoldable pub addressAt : List ℕ → ℕ → Address
-addressAt l i = getD (addresses l) i Absent
+-- no gateway: an absent address
+abbrev pub noGateway : Gateway
+noGateway = record { addr = Absent; pan = PanField.None }
 
-unfoldable pub gateways : List ℕ → List Node
-gateways l = map nodeOf (addresses l)
+-- a gateway as two numbers: its PAN in the first, from bit 16 on, over the kind of its address; then the address
+unfoldable pub gatewayOf : ℕ → ℕ → Gateway
+gatewayOf k n = choose (leb (k / 65536) 65536) (record { addr = addressOf (k % 65536) n; pan = panFrom (k / 65536) }) noGateway
+
+-- two numbers for each gateway; a last one alone is none
+unfoldable pub listed : List ℕ → List Gateway
+listed [] = []
+listed (k ∷ []) = noGateway ∷ []
+listed (k ∷ n ∷ l) = gatewayOf k n ∷ listed l
+
+-- the i-th of them
+unfoldable pub gatewayAt : List ℕ → ℕ → Gateway
+gatewayAt l i = getD (listed l) i noGateway
+
+unfoldable pub gateways : List ℕ → List Source
+gateways l = map gateOf (listed l)
 
 -- 14: over four, two equal, or an absent address
 unfoldable pub refusesList : List ℕ → Bool
-refusesList l = refusedList (length (addresses l)) (gateways l)
+refusesList l = refusedList (length (listed l)) (gateways l)
 
 -- the answer: 0, or 14
 unfoldable pub begun : List ℕ → ℕ

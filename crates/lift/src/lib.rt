@@ -10,21 +10,25 @@ ghost use lib.ListN.{length, take};
 ghost use lib.Dec.{eqb};
 ghost use Rattle.octets.specs.Read.{choose};
 ghost use Rattle.reassembly.specs.Lists.{firstAt};
-ghost use Rattle.reassembly.specs.Slots.{nodeOf, owner, isKey, gatesOf, free, held, opening};
+ghost use Rattle.reassembly.specs.Slots.{owner, isKey, gatesOf, free, held, opening};
+ghost use Rattle.reassembly.specs.Fresh.{gateOf};
 ghost use Rattle.reassembly.specs.Parts.{partOf, ofOutcome};
 ghost use Rattle.reassembly.specs.Table.{takeAt, Lands};
 ghost use Rattle.reassembly.specs.declared.table.Table.{Table};
 ghost use Rattle.receiver.specs.Carried.{partIn};
-ghost use Rattle.lift.specs.Face.{packed, InHalf, addressOf, addressAt, begun, tableBegun, received, Answers};
+ghost use Rattle.lift.specs.Face.{packed, InHalf, addressOf, panFrom, gatewayOf, gatewayAt, begun, tableBegun, received, Answers};
 ghost use Rattle.lift.specs.InPlace.{judged, isTaken, atOnce, Told, PutAt, TakesIn, ReceivesIn};
 use expand::copy::put_part;
 use ieee802154::Address;
+use ieee802154::Pan;
+use ieee802154::PanField;
+use reassembly::Gateway;
 use reassembly::InSlot;
 use reassembly::Key;
 use reassembly::Listed;
-use reassembly::Node;
 use reassembly::Outcome;
 use reassembly::Slot;
+use reassembly::Source;
 use reassembly::Table;
 use reassembly::count_free;
 use reassembly::count_held;
@@ -62,27 +66,57 @@ fn address_of(kind: u64, number: u64) -> Address
     Address::Absent
 }
 
-// The i-th gateway of a list of two numbers each; absent where there is none.
-fn address_at(gateways: &[u64], i: usize) -> Address
+// A PAN that crosses as one number: 0 is none, and every PAN one more than its identifier.
+fn pan_from(n: u64) -> PanField
+    requires { ⌜ n ≤ 65536 ⌝ }
+    ensures { λ r. ⌜ r ≡ panFrom n ⌝ }
+{
+    if n == 0 {
+        return PanField::None;
+    }
+    PanField::Some(Pan((n - 1) as u16))
+}
+
+// A gateway that crosses as two numbers: the first is its PAN, from bit 16 on, and the kind of its address.
+fn gateway_of(kind: u64, number: u64) -> Gateway
+    ensures { λ r. ⌜ r ≡ gatewayOf kind number ⌝ }
+{
+    let high = kind / 65536;
+    if high <= 65536 {
+        let addr = address_of(kind % 65536, number);
+        let pan = pan_from(high);
+        return Gateway { addr, pan };
+    }
+    Gateway {
+        addr: Address::Absent,
+        pan: PanField::None,
+    }
+}
+
+// The i-th gateway of a list of two numbers each; none, an absent address, where there is no such.
+fn gateway_at(gateways: &[u64], i: usize) -> Gateway
     requires { ⌜ i < 4 ⌝ }
-    ensures { λ r. ⌜ r ≡ addressAt (now (gateways .entry)) i ⌝ }
+    ensures { λ r. ⌜ r ≡ gatewayAt (now (gateways .entry)) i ⌝ }
 {
     let k = i * 2;
     let n = k + 1;
     if n < gateways.len() {
-        return address_of(gateways[k], gateways[n]);
+        return gateway_of(gateways[k], gateways[n]);
     }
-    Address::Absent
+    Gateway {
+        addr: Address::Absent,
+        pan: PanField::None,
+    }
 }
 
 // A table of these gateways, at its beginning, and 0; where the list is refused, 14, and a table without gateways.
 fn begin(gateways: &[u64]) -> Lifted
     ensures { λ r. ⌜ (r .answer ≡ begun (now (gateways .entry))) × ((t : Table) → choose (eqb (r .answer) 0) (r .table) t ≡ tableBegun t (now (gateways .entry))) ⌝ }
 {
-    let a = address_at(gateways, 0);
-    let b = address_at(gateways, 1);
-    let c = address_at(gateways, 2);
-    let d = address_at(gateways, 3);
+    let a = gateway_at(gateways, 0);
+    let b = gateway_at(gateways, 1);
+    let c = gateway_at(gateways, 2);
+    let d = gateway_at(gateways, 3);
     let count = gateways.len() / 2 + gateways.len() % 2;
     let f = Table::new([a, b, c, d], count);
     let made = f.table;
@@ -208,13 +242,16 @@ fn put_at(s: Slot, i: usize, time: u64, c: Carried, mem: &mut [u8], out: &mut [u
 
 // How many slots the gateway of this kind and number holds.
 fn held_by(table: Table, kind: u64, number: u64) -> usize
-    ensures { λ r. ⌜ r ≡ held (nodeOf (addressOf kind number)) (table .slots) ⌝ }
+    ensures { λ r. ⌜ r ≡ held (gateOf (gatewayOf kind number)) (table .slots) ⌝ }
 {
-    let g = address_of(kind, number);
-    count_held(table, Node::of(g))
+    let g = gateway_of(kind, number);
+    let addr = g.addr;
+    let pan = g.pan;
+    count_held(table, Source::of(addr, pan))
 }
 
-// Makes a table of these gateways: two numbers each, 1 and a short address or 2 and an extended one. Answers 0, or 14.
+// Makes a table of these gateways, two numbers each: 1 and a short address or 2 and an extended one, with a PAN 65,536 times
+// one more than its identifier added to the first. Answers 0, or 14.
 #[no_mangle]
 pub extern "C" fn lift_begin(t: &mut Table, gateways: &[u64]) -> u32
     ensures { λ r. ⌜ (r ≡ begun (now (gateways .entry))) × (now (t .exit) ≡ tableBegun (now (t .entry)) (now (gateways .entry))) ⌝ }
@@ -296,7 +333,7 @@ pub extern "C" fn lift_free(t: &Table) -> usize
 // How many slots the gateway of this kind and number holds.
 #[no_mangle]
 pub extern "C" fn lift_held(t: &Table, kind: u64, number: u64) -> usize
-    ensures { λ r. ⌜ r ≡ held (nodeOf (addressOf kind number)) (now (t .entry) .slots) ⌝ }
+    ensures { λ r. ⌜ r ≡ held (gateOf (gatewayOf kind number)) (now (t .entry) .slots) ⌝ }
 {
     held_by(*t, kind, number)
 }

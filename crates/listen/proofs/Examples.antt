@@ -28,16 +28,17 @@ use Rattle.expand.proofs.CopyLaws.{length-put}
 use Rattle.expand.proofs.Examples.{printed-example}
 use Rattle.incoming.specs.Incoming.{framed, arrival, datagram, whole, payload}
 use Rattle.reassembly.specs.Lists.{count, those}
-use Rattle.reassembly.specs.Slots.{nodeOf, noNode, noKey, sameNode, present, freeSlot, expired, expire1, expire, gatesOf, isGate}
+use Rattle.reassembly.specs.Slots.{noNode, noSource, noKey, sameNode, sameSource, addressed, present, freeSlot, expired, expire1, expire, gatesOf, isGate}
 use Rattle.reassembly.specs.Parts as Parts
 use Rattle.reassembly.specs.Parts.{Reply, outputAfter}
 use Rattle.reassembly.specs.Table.{State, Result, other, slotsAt, aged, withSlots, pass, step, lentCall}
-use Rattle.reassembly.specs.Fresh.{seats, fresh}
-use Rattle.reassembly.specs.declared.slot.Node.{Node}
+use Rattle.reassembly.specs.Fresh.{gateOf, seats, fresh}
+use Rattle.reassembly.specs.declared.slot.Source.{Source}
+use Rattle.ieee802154.specs.declared.addr.PanField.{PanField}
 use Rattle.receiver.specs.Receive.{welcome, admitted, brings, frameCall, callOf}
 use Rattle.listen.specs.Lines.{widthIn, decimal, endLine}
 use Rattle.capture.specs.File.{pieces, blocksOf, joined}
-use Rattle.listen.specs.Heard.{Listener, Told, received, afterFrame, saidOf, afterFrames, saidOfAll, hearBlock, starting, thenHeard, hearBlocks, hearAll, lastLine, beginning, heard}
+use Rattle.listen.specs.Heard.{listedAs, Listener, Told, received, afterFrame, saidOf, afterFrames, saidOfAll, hearBlock, starting, thenHeard, hearBlocks, hearAll, lastLine, beginning, heard}
 
 -- ---- the frames: from 0001, and the same from 1234
 abbrev frameFrom : ℕ → ℕ → Timed
@@ -49,8 +50,8 @@ frameFrom lo hi = record {
 abbrev pub frames : List Timed
 frames = frameFrom 0x01 0x00 ∷ frameFrom 0x34 0x12 ∷ []
 
-abbrev gates : List Node
-gates = nodeOf (Short 1) ∷ nodeOf (Short 2) ∷ nodeOf (Short 3) ∷ nodeOf (Short 4) ∷ []
+abbrev gates : List Source
+gates = gateOf (listedAs 1) ∷ gateOf (listedAs 2) ∷ gateOf (listedAs 3) ∷ gateOf (listedAs 4) ∷ []
 
 -- the datagram of the first: fe80::ff:fe00:1 to fe80::ff:fe00:ffff, and four bytes of ICMPv6
 abbrev handed : List ℕ
@@ -61,12 +62,12 @@ handed =
     ∷ 0x01 ∷ 0x02 ∷ 0x03 ∷ 0x04 ∷ []
 
 brought : frameCall gates [] 0 (frameFrom 0x01 0x00 .frame) ≡ other 0 (Parts.out handed)
-unfolding frameCall admitted welcome arrival framed relay meshField broadcastField payload whole dispatch dispatchOf mac header byte le16 headerRest supported addressing hasAddressing sides side carried carried01 panField addressField auxiliary reprOf sequenceOf hasSequence isGate sameNode present count
+unfolding frameCall admitted welcome arrival framed relay meshField broadcastField payload whole dispatch dispatchOf mac header byte le16 headerRest supported addressing hasAddressing sides side carried carried01 panField addressField auxiliary reprOf sequenceOf hasSequence isGate sameSource sameNode present addressed count
 brought =
-    ap (λ (e : Answer Expansion). brings 0 (record { src = Short 1; dst = Short 0xffff; at = 9 }) (andThen e (λ (x : Expansion). is (datagram (x .bytes))))) printed-example
+    ap (λ (e : Answer Expansion). brings 0 (record { src = Short 1; pan = PanField.Some (record { 0 = 0xabcd }); dst = Short 0xffff; at = 9 }) (andThen e (λ (x : Expansion). is (datagram (x .bytes))))) printed-example
 
 turned-away : frameCall gates [] 0 (frameFrom 0x34 0x12 .frame) ≡ other 0 (Parts.refused 9)
-unfolding frameCall admitted welcome arrival framed relay meshField broadcastField mac header byte le16 headerRest supported addressing hasAddressing sides side carried carried01 panField addressField auxiliary reprOf sequenceOf hasSequence isGate sameNode present count
+unfolding frameCall admitted welcome arrival framed relay meshField broadcastField mac header byte le16 headerRest supported addressing hasAddressing sides side carried carried01 panField addressField auxiliary reprOf sequenceOf hasSequence isGate sameSource sameNode present addressed count
 turned-away = refl
 
 -- "1 out 44", "2 no 9"
@@ -84,12 +85,12 @@ module _ (m : List ℕ) (M : 16384 ≤ length m) where
   passed a = record { reply = a; state = record { table = starting .table; mem = m }; opens = 0; ends = 0; took = false }
 
   nothing-kept : (a : Reply (List ℕ)) → step (record { table = starting .table; mem = m }) (other 0 a) ≡ passed a
-  unfolding step pass withSlots slotsAt aged expire expire1 expired count starting fresh seats freeSlot noKey noNode
+  unfolding step pass withSlots slotsAt aged expire expire1 expired count starting fresh seats freeSlot noKey noSource noNode
   nothing-kept a = refl
 
   module _ (n : ℕ) (o : List ℕ) (O : 2047 ≤ length o) (f : List ℕ) (a : Reply (List ℕ)) (C : frameCall gates [] 0 f ≡ other 0 a) where
     came : received (after n o) (record { time = 0; frame = f }) ≡ passed a
-    unfolding received callOf lentCall gatesOf those present starting fresh seats
+    unfolding received callOf lentCall gatesOf those present addressed starting fresh seats
     came = rw (le-ltb (length m) 16384 M, le-ltb (length o) 2047 O, C) (nothing-kept a)
 
   module _ (o : List ℕ) (O : 2047 ≤ length o) where

@@ -18,11 +18,11 @@ use Rattle.capture.specs.Made.{noFrame}
 use Rattle.capture.proofs.Exact.{frames-length, frames-at}
 use Rattle.capture.proofs.Unique.{told-good, told-bad}
 use Rattle.reassembly.specs.Lists.{count}
-use Rattle.reassembly.specs.Slots.{gatesOf, sameNode, present}
+use Rattle.reassembly.specs.Slots.{gatesOf, sameNode, sameSource, addressed, present}
 use Rattle.reassembly.specs.Parts.{ofOutcome, told, outputAfter}
 use Rattle.reassembly.specs.Table.{step, Gives}
-use Rattle.reassembly.specs.Fresh.{fresh, nodes, unfit, refusedList, Begins}
-use Rattle.reassembly.proofs.Fresh.{nodes-are, when-fit}
+use Rattle.reassembly.specs.Fresh.{fresh, sources, unfit, refusedList, Begins}
+use Rattle.reassembly.proofs.Fresh.{sources-are, when-fit}
 use Rattle.reassembly.specs.declared.table.Listed.{Listed}
 use Rattle.reassembly.specs.declared.table.Table.{Table}
 use Rattle.reassembly.specs.declared.table.Received.{Received}
@@ -127,10 +127,10 @@ heard-bad x s j e was room at to p q h =
 
 -- ---- the beginning
 -- 14 lets the four pass: computed
-four-fit : refusedList 4 (nodes 4 gateways) ≡ false
-unfolding refusedList nodes unfit sameNode present count
+four-fit : refusedList 4 (sources 4 gateways) ≡ false
+unfolding refusedList sources unfit sameSource sameNode present addressed count
 four-fit = refl
 
 pub begins : (y : Listed) (x : Table) → Begins y x 4 gateways → record { table = x; frames = 0; block = 0 } ≡ starting
 unfolding starting
-begins y x b = ap (λ (t : Table). record { table = t; frames = 0; block = 0 }) (when-fit 4 gateways y x b four-fit ∙ ap fresh (nodes-are 4 gateways))
+begins y x b = ap (λ (t : Table). record { table = t; frames = 0; block = 0 }) (when-fit 4 gateways y x b four-fit ∙ ap fresh (sources-are 4 gateways))

@@ -6,14 +6,15 @@ use mathlib.Core.Path.{_≡_}
 use mathlib.Core.List.{List, [], _∷_, _++_}
 use lib.ListN.{replicate}
 use Rattle.octets.specs.Read.{choose}
-use Rattle.ieee802154.specs.declared.addr.Address.{Address}
+use Rattle.ieee802154.specs.declared.addr.PanField.{PanField}
 use Rattle.ieee802154.specs.declared.addr.Address.the-variants.{Short}
 use Rattle.capture.specs.Block.{Timed, framesOf, goodBlock}
 use Rattle.capture.specs.File.{blocksOf, joined}
-use Rattle.reassembly.specs.Slots.{nodeOf, gatesOf}
+use Rattle.reassembly.specs.Slots.{gatesOf}
 use Rattle.reassembly.specs.Parts.{told, outputAfter}
 use Rattle.reassembly.specs.Table.{Result, step}
-use Rattle.reassembly.specs.Fresh.{fresh}
+use Rattle.reassembly.specs.Fresh.{gateOf, fresh}
+use Rattle.reassembly.specs.declared.table.Gateway.{Gateway}
 use Rattle.receiver.specs.Receive.{callOf}
 use Rattle.listen.specs.Lines.{frameLine, badLine, endLine, Page, putLines}
 use Rattle.listen.specs.declared.ear.Ear.{Ear}
@@ -73,13 +74,16 @@ hearBlock x s =
     (record { after = x; said = badLine (x .ear .block) ∷ []; more = false })
 
 -- ---- a capture
--- the gateways
-abbrev pub gateways : List Address
-gateways = Short 0x0001 ∷ Short 0x0002 ∷ Short 0x0003 ∷ Short 0x0004 ∷ []
+-- the gateways: short 0001 to 0004, under PAN abcd
+abbrev pub listedAs : ℕ → Gateway
+listedAs a = record { addr = Short a; pan = PanField.Some (record { 0 = 0xabcd }) }
+
+abbrev pub gateways : List Gateway
+gateways = listedAs 0x0001 ∷ listedAs 0x0002 ∷ listedAs 0x0003 ∷ listedAs 0x0004 ∷ []
 
 -- at the beginning
 unfoldable pub starting : Ear
-starting = record { table = fresh (nodeOf (Short 1) ∷ nodeOf (Short 2) ∷ nodeOf (Short 3) ∷ nodeOf (Short 4) ∷ []); frames = 0; block = 0 }
+starting = record { table = fresh (gateOf (listedAs 1) ∷ gateOf (listedAs 2) ∷ gateOf (listedAs 3) ∷ gateOf (listedAs 4) ∷ []); frames = 0; block = 0 }
 
 -- what follows is heard where reading goes on
 abbrev pub thenHeard : Told → Told → Told

@@ -4,7 +4,7 @@ ghost use Prim.Native.Nat.{_-_};
 ghost use lib.ListN.{take, drop};
 ghost use Rattle.capture.specs.Block.{countOf, framesOf};
 ghost use mathlib.Core.Bool.{true};
-ghost use Rattle.listen.specs.Heard.{starting, afterFrames, saidOfAll, hearBlock, hearAll, Hears};
+ghost use Rattle.listen.specs.Heard.{listedAs, starting, afterFrames, saidOfAll, hearBlock, hearAll, Hears};
 use super::line::put_bad;
 use super::line::put_frame;
 use capture::block::BLOCK;
@@ -13,6 +13,9 @@ use capture::block::frame;
 use capture::block::judge;
 use capture::block::time;
 use ieee802154::Address;
+use ieee802154::Pan;
+use ieee802154::PanField;
+use reassembly::Gateway;
 use reassembly::Table;
 use receiver::receive;
 use std::num::wrapping_add_u64;
@@ -31,18 +34,26 @@ pub struct Heard {
     pub next: usize,
 }
 
+// The gateway of a short address under PAN abcd.
+fn listed_as(x: u16) -> Gateway
+    ensures { λ r. ⌜ r ≡ listedAs x ⌝ }
+{
+    Gateway {
+        addr: Address::Short(x),
+        pan: PanField::Some(Pan(0xabcd)),
+    }
+}
+
 impl Ear {
     // At the beginning of a capture.
     pub fn new() -> Ear
         ensures { λ r. ⌜ r ≡ starting ⌝ }
     {
-        let gateways = [
-            Address::Short(1),
-            Address::Short(2),
-            Address::Short(3),
-            Address::Short(4),
-        ];
-        let fresh = Table::new(gateways, 4);
+        let a = listed_as(1);
+        let b = listed_as(2);
+        let c = listed_as(3);
+        let d = listed_as(4);
+        let fresh = Table::new([a, b, c, d], 4);
         let table = fresh.table;
         Ear {
             table,

@@ -12,7 +12,7 @@ use Rattle.reassembly.specs.Slots.{owner, gatesOf, isGate, held, free}
 use Rattle.reassembly.specs.Parts.{Part, Reply, kept, out, refused, told, ofOutcome, outputAfter}
 use Rattle.reassembly.specs.Table.{Call, part, State, step, after, Ready, comes, next, run, opensIn, endsIn}
 use Rattle.reassembly.specs.Fresh.{Gateways, begun}
-use Rattle.reassembly.specs.declared.slot.Node.{Node}
+use Rattle.reassembly.specs.declared.slot.Source.{Source}
 use Rattle.reassembly.specs.declared.slot.Key.{Key}
 use Rattle.reassembly.specs.declared.part.Outcome.{Outcome}
 use Rattle.reassembly.proofs.Parts.{length-finish}
@@ -43,12 +43,12 @@ ran-went [] σ R = tt
 ran-went (h ∷ hs) σ R = (R .0 .table, R .0 .memory, ran-went hs (left h) (R .1))
 
 -- the gateways are gs, and the memory is as long as m
-pub record Fixed (gs : List Node) (m : List ℕ) (σ : State) : Type 0 where
+pub record Fixed (gs : List Source) (m : List ℕ) (σ : State) : Type 0 where
   pub good : Good σ
   pub gates : gatesOf (σ .table) ≡ gs
   pub size : length (σ .mem) ≡ length m
 
-module _ (gs : List Node) (m : List ℕ) where
+module _ (gs : List Source) (m : List ℕ) where
   pub fixed-begun : Gateways gs → 16384 ≤ length m → Fixed gs m (begun gs m)
   fixed-begun W h = record { good = fresh-good gs m W h; gates = gates-fresh gs W; size = refl }
 
@@ -144,7 +144,7 @@ module _ (gs : List Node) (m : List ℕ) where
 pub part-one : (t u : ℕ) (p q : Part) → part t p ≡ part u q → p ≡ q
 part-one t u p q e = cc
 
-module _ (gs : List Node) (m : List ℕ) (k : Key) where
+module _ (gs : List Source) (m : List ℕ) (k : Key) where
   -- a part came in one of the calls
   pub came-in : (hs : List Turn) (p : Part) → In p (came k (map (meant gs m) hs)) → (h : Turn) × In h hs × (comes k (meant gs m h) ≡ p ∷ [])
   unfolding came
@@ -191,7 +191,7 @@ pub record Replies (k : Key) (d : List ℕ) (σ : State) (mid : List Turn) (c : 
   pub exactly : (step (endOf σ mid) (callIn (endOf σ mid) c)) .reply ≡ out d
   pub room : length d ≤ length (c .before)
 
-kept-in : (gs : List Node) (m : List ℕ) (k : Key) (hs : List Turn) (σ : State) → Fixed gs m σ → Went σ hs → AllKept k σ (map (meant gs m) hs)
+kept-in : (gs : List Source) (m : List ℕ) (k : Key) (hs : List Turn) (σ : State) → Fixed gs m σ → Went σ hs → AllKept k σ (map (meant gs m) hs)
     → ((h : Turn) → In h hs → named (h .frame) ≡ is k → (p : Part) × (comes k (meant gs m h) ≡ p ∷ [])) → KeptIn k σ hs
 unfolding AllKept KeptIn
 kept-in gs m k [] σ F L A B = tt
@@ -216,7 +216,7 @@ out-front d b o r a e l = a ∙ ap (λ (z : Reply (List ℕ)). outputAfter z b) 
 
 -- ---- the main theorem
 
-module _ (gs : List Node) (m : List ℕ) (k : Key) (d : List ℕ) (C : Cutting k d) (past mid : List Turn) (c : Turn) (H : Supposed gs m k d C past mid c) where
+module _ (gs : List Source) (m : List ℕ) (k : Key) (d : List ℕ) (C : Cutting k d) (past mid : List Turn) (c : Turn) (H : Supposed gs m k d C past mid c) where
   calls : List Turn → List Call
   calls hs = map (meant gs m) hs
 
@@ -383,9 +383,9 @@ module _ (gs : List Node) (m : List ℕ) (k : Key) (d : List ℕ) (C : Cutting k
 made-small : (k : Key) (ps : List Part) (d : List ℕ) → MadeOf k ps d → length d ≤ 2047
 made-small k ps d M = omega (arith, ap length (M .made), length-finish (M .elided) (M .d₀), M .sized, M .bounded)
 
-module _ (gs : List Node) (m : List ℕ) (W : Gateways gs) (h : 16384 ≤ length m) (hs : List Turn) where
+module _ (gs : List Source) (m : List ℕ) (W : Gateways gs) (h : 16384 ≤ length m) (hs : List Turn) where
   module _ (L : Went (begun gs m) hs) where
-    pub went-three : (g : Node) → held g (endOf (begun gs m) hs .table .slots) ≤ 3
+    pub went-three : (g : Source) → held g (endOf (begun gs m) hs .table .slots) ≤ 3
     went-three g = rw (went-is gs m hs (begun gs m) (fixed-begun gs m W h) L) (three gs m W h (map (meant gs m) hs) g)
 
     pub went-eight : openings (begun gs m) hs + free (endOf (begun gs m) hs .table .slots) ≡ 8 + endings (begun gs m) hs
@@ -402,7 +402,7 @@ module _ (gs : List Node) (m : List ℕ) (W : Gateways gs) (h : 16384 ≤ length
     memory-stays = end-fixed gs m hs (begun gs m) (fixed-begun gs m W h) R .size
 
     -- "No gateway ever holds over three slots"
-    pub at-most-three : (g : Node) → held g (endOf (begun gs m) hs .table .slots) ≤ 3
+    pub at-most-three : (g : Source) → held g (endOf (begun gs m) hs .table .slots) ≤ 3
     at-most-three = went-three (ran-went hs (begun gs m) R)
 
     -- "At every moment openings so far less endings so far, plus free slots, is 8"
@@ -411,7 +411,7 @@ module _ (gs : List Node) (m : List ℕ) (W : Gateways gs) (h : 16384 ≤ length
 
 -- "bytes of two such keys never meet in one datagram", in 01's words: "each byte handed out from a slot, a computed checksum aside, is the byte
 -- at its place of a part taken under that slot's key since the slot's opening"
-module _ (gs : List Node) (m : List ℕ) (W : Gateways gs) (room : 16384 ≤ length m) (hs : List Turn) (h : Turn) where
+module _ (gs : List Source) (m : List ℕ) (W : Gateways gs) (room : 16384 ≤ length m) (hs : List Turn) (h : Turn) where
   -- of the call's reply, whatever form the answer has
   module _ (L : Went (begun gs m) (hs ++ (h ∷ []))) where
     pub went-apart : (p : Part) → Brings gs m h p → (n : ℕ) → out n ≡ told ((step (endOf (begun gs m) hs) (callIn (endOf (begun gs m) hs) h)) .reply)

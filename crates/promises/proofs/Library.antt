@@ -10,7 +10,7 @@ use Rattle.reassembly.specs.Slots.{owner, held, free}
 use Rattle.reassembly.specs.Parts.{Part, Reply, kept, out, refused, told, outputAfter}
 use Rattle.reassembly.specs.Table.{State, step, Ready}
 use Rattle.reassembly.specs.Fresh.{Gateways, begun}
-use Rattle.reassembly.specs.declared.slot.Node.{Node}
+use Rattle.reassembly.specs.declared.slot.Source.{Source}
 use Rattle.reassembly.specs.declared.slot.Key.{Key}
 use Rattle.reassembly.specs.declared.table.Table.{Table}
 use Rattle.reassembly.specs.Cover.{In}
@@ -61,7 +61,7 @@ kept-so k (x ∷ hs) σ R A h (inl z) n =
     rw z (R .0 .answer ∙ ap (λ (r : Reply (List ℕ)). packed (told r)) e, R .0 .output ∙ ap (λ (r : Reply (List ℕ)). outputAfter r (x .before)) e)
 kept-so k (x ∷ hs) σ R A h (inr i) n = kept-so k hs (left (asTurn x)) (R .1) (A .1) h i n
 
-module _ (gs : List Node) (m : List ℕ) (k : Key) (d : List ℕ) (C : Cutting k d) (past mid : List LiftTurn) (c : LiftTurn)
+module _ (gs : List Source) (m : List ℕ) (k : Key) (d : List ℕ) (C : Cutting k d) (past mid : List LiftTurn) (c : LiftTurn)
     (H : Supposed gs m k d C (map asTurn past) (map asTurn mid) (asTurn c)) (R : RanIn (begun gs m) (past ++ (mid ++ (c ∷ [])))) where
   abbrev σ₁ : State
   σ₁ = endOf (begun gs m) (map asTurn past)
@@ -97,10 +97,10 @@ module _ (gs : List Node) (m : List ℕ) (k : Key) (d : List ℕ) (C : Cutting k
 
 -- ---- companions, over every run from a fresh table; a run up to any moment is a run (`in-left`)
 
-module _ (gs : List Node) (m : List ℕ) (W : Gateways gs) (room : 16384 ≤ length m) where
+module _ (gs : List Source) (m : List ℕ) (W : Gateways gs) (room : 16384 ≤ length m) where
   module _ (hs : List LiftTurn) (R : RanIn (begun gs m) hs) where
     -- "No gateway ever holds over three slots"
-    pub lift-at-most-three : (g : Node) → held g (endOf (begun gs m) (map asTurn hs) .table .slots) ≤ 3
+    pub lift-at-most-three : (g : Source) → held g (endOf (begun gs m) (map asTurn hs) .table .slots) ≤ 3
     lift-at-most-three = went-three gs m W room (map asTurn hs) (in-went hs (begun gs m) R)
 
     -- "At every moment openings so far less endings so far, plus free slots, is 8"

@@ -12,7 +12,7 @@ use Rattle.reassembly.specs.Slots.{sameKey}
 use Rattle.reassembly.specs.Parts.{Part}
 use Rattle.reassembly.specs.Table.{Call, short, other, part, State, Result, step, next, note, takenSince}
 use Rattle.reassembly.specs.Fresh.{Gateways, begun}
-use Rattle.reassembly.specs.declared.slot.Node.{Node}
+use Rattle.reassembly.specs.declared.slot.Source.{Source}
 use Rattle.reassembly.specs.declared.slot.Key.{Key}
 use Rattle.reassembly.specs.declared.part.Outcome.{Outcome}
 use Rattle.reassembly.specs.Cover.{In, Has, MadeOf}
@@ -42,7 +42,7 @@ note-in k (part t p) r h q i =
     more (inl z) = inr (t, ap (part t) (sym z))
     more (inr z) = inl z
 
-module _ (gs : List Node) (m : List ℕ) where
+module _ (gs : List Source) (m : List ℕ) where
   -- a part that was taken came in one of the calls
   taken-came : (k : Key) (hs : List Turn) (σ : State) (h : List Part) (q : Part) → In q (takenSince k σ (map (meant gs m) hs) h)
       → In q h ⊎ ((x : Turn) × In x hs × ((t : ℕ) × (meant gs m x ≡ part t q)))

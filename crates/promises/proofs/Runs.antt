@@ -7,7 +7,7 @@ use Rattle.reassembly.specs.Slots.{owner, gatesOf, isGate, held}
 use Rattle.reassembly.specs.Parts.{Part}
 use Rattle.reassembly.specs.Table.{Call, part, State, after, Ready, comes, next, run}
 use Rattle.reassembly.specs.Fresh.{begun}
-use Rattle.reassembly.specs.declared.slot.Node.{Node}
+use Rattle.reassembly.specs.declared.slot.Source.{Source}
 use Rattle.reassembly.specs.declared.slot.Key.{Key}
 use Rattle.reassembly.proofs.Fresh.{fresh-last}
 use Rattle.reassembly.proofs.Runs.{gates-fresh, fresh-good, run-good, run-gates, comes-part, none-ready, none-before}
@@ -49,7 +49,7 @@ module _ (k : Key) where
 
 -- ---- the main theorem
 
-module _ (gs : List Node) (m : List ℕ) (k : Key) (d : List ℕ) (C : Cutting k d) (past mid : List Call) (t : ℕ) (q : Part)
+module _ (gs : List Source) (m : List ℕ) (k : Key) (d : List ℕ) (C : Cutting k d) (past mid : List Call) (t : ℕ) (q : Part)
     (H : Supposed gs m k d C past mid t q) (R : Ready k (run (begun gs m) past) (H .t₀)) where
   σ : State
   σ = run (begun gs m) past
@@ -107,7 +107,7 @@ module _ (gs : List Node) (m : List ℕ) (k : Key) (d : List ℕ) (C : Cutting k
   }
 
 -- DEMAND 3: "if a gateway holds no slot when the earliest part of a datagram comes, [..]"
-pub demand-3 : (gs : List Node) (m : List ℕ) (k : Key) (d : List ℕ) (C : Cutting k d) (past mid : List Call) (t : ℕ) (q : Part)
+pub demand-3 : (gs : List Source) (m : List ℕ) (k : Key) (d : List ℕ) (C : Cutting k d) (past mid : List Call) (t : ℕ) (q : Part)
     → Supposed gs m k d C past mid t q → held (owner k) (run (begun gs m) past .table .slots) ≡ 0 → Concluded (run (begun gs m) past) k d mid t q
 demand-3 gs m k d C past mid t q H z =
     let σ = run (begun gs m) past in

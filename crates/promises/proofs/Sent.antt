@@ -10,6 +10,7 @@ use borrow.Author.Tests.{ne-eqb}
 use Rattle.octets.specs.Read.{Answer, is, refused, andThen, choose}
 use Rattle.octets.proofs.Steps.{and-true}
 use Rattle.ieee802154.specs.Address.{isPresent}
+use Rattle.ieee802154.specs.declared.addr.PanField.{PanField}
 use Rattle.ieee802154.specs.declared.addr.Address.{Address}
 use Rattle.ieee802154.specs.declared.addr.Address.the-variants.{Absent, Short, Extended}
 use Rattle.sixlowpan.specs.Dispatch.{dispatch}
@@ -20,8 +21,8 @@ use Rattle.expand.proofs.SumLaws.{Bytes}
 use Rattle.incoming.specs.Incoming.{framed, Brought, datagram, part, whole, piece, fragment, payload}
 use Rattle.incoming.specs.declared.arrival.Arrival.{Arrival}
 use Rattle.incoming.proofs.Relayed.{direct, dispatched}
-use Rattle.reassembly.specs.Slots.{nodeOf, present, isGate}
-use Rattle.reassembly.specs.declared.slot.Node.{Node}
+use Rattle.reassembly.specs.Slots.{nodeOf, addressed, isGate}
+use Rattle.reassembly.specs.declared.slot.Source.{Source}
 use Rattle.receiver.specs.Receive.{keyOf, welcome, admitted, frameCall, brings, carries}
 use Rattle.cutting.specs.Fields.{isOurs}
 use Rattle.cutting.specs.Head.{macLength, covers}
@@ -34,15 +35,15 @@ use Rattle.cutting.proofs.WriteLaws.{Ready}
 use Rattle.cutting.proofs.Backs.{Ours, ours-facts}
 use Rattle.cutting.proofs.Tiling.{Each, Good, FirstPart, whole-within, first-within, later-within, pieces-each}
 use Rattle.cutting.proofs.Trips.{frame-mac, whole-dispatch, first-dispatch, later-dispatch, whole-expands, first-frag, later-frag, first-expands, later-part}
-use Rattle.promises.specs.Sent.{keyFor, partFor, callFor}
+use Rattle.promises.specs.Sent.{sender, keyFor, partFor, callFor}
 
-present-node : (a : Address) → isPresent a ≡ true → present (nodeOf a) ≡ true
-unfolding present
+present-node : (a : Address) → isPresent a ≡ true → addressed (nodeOf a) ≡ true
+unfolding addressed
 present-node Absent e = cc
 present-node (Short a) e = refl
 present-node (Extended a) e = refl
 
-dst-present : (l : Link) → hasBoth l ≡ true → present (nodeOf (l .dst)) ≡ true
+dst-present : (l : Link) → hasBoth l ≡ true → addressed (nodeOf (l .dst)) ≡ true
 unfolding hasBoth
 dst-present l e = present-node (l .dst) (and-true (isPresent (l .src)) (isPresent (l .dst)) e .1)
 
@@ -53,21 +54,21 @@ pub record Cuts (l : Link) (d : List ℕ) : Type 0 where
   pub both : hasBoth l ≡ true
   pub ours : isOurs d ≡ true
 
-module _ (l : Link) (d : List ℕ) (K : Cuts l d) (gs : List Node) (gate : isGate (nodeOf (l .src)) gs ≡ true) (ctx : List ℕ) (t : ℕ) where
-  abbrev sender : Arrival
-  sender = record { src = l .src; dst = l .dst; at = macLength l }
+module _ (l : Link) (d : List ℕ) (K : Cuts l d) (gs : List Source) (gate : isGate (sender l) gs ≡ true) (ctx : List ℕ) (t : ℕ) where
+  abbrev arrived : Arrival
+  arrived = record { src = l .src; pan = PanField.Some (l .pan); dst = l .dst; at = macLength l }
 
   -- its MAC header is read; behind it stands what dispatch knows, so neither header of a relay
-  bare : (p : Piece) → length (frameOf l d p) ≤ l .limit → framed (frameOf l d p) ≡ is sender
+  bare : (p : Piece) → length (frameOf l d p) ≤ l .limit → framed (frameOf l d p) ≡ is arrived
   unfolding framed
   bare p h = rw (frame-mac l d p (K .both) (omega (arith, K .ready .3))) refl
 
-  comes : (p : Piece) (k : SixlowpanPacket) → length (frameOf l d p) ≤ l .limit → dispatch (frameOf l d p) (macLength l) ≡ is k → admitted gs (frameOf l d p) ≡ is sender
+  comes : (p : Piece) (k : SixlowpanPacket) → length (frameOf l d p) ≤ l .limit → dispatch (frameOf l d p) (macLength l) ≡ is k → admitted gs (frameOf l d p) ≡ is arrived
   unfolding admitted welcome
-  comes p k h e = rw (direct (frameOf l d p) sender (bare p h) (dispatched (frameOf l d p) (macLength l) k e), gate, dst-present l (K .both)) refl
+  comes p k h e = rw (direct (frameOf l d p) arrived (bare p h) (dispatched (frameOf l d p) (macLength l) k e), gate, dst-present l (K .both)) refl
 
   called : (p : Piece) (k : SixlowpanPacket) → length (frameOf l d p) ≤ l .limit → dispatch (frameOf l d p) (macLength l) ≡ is k
-    → frameCall gs ctx t (frameOf l d p) ≡ brings t sender (payload ctx sender (frameOf l d p))
+      → frameCall gs ctx t (frameOf l d p) ≡ brings t arrived (payload ctx arrived (frameOf l d p))
   unfolding frameCall
   called p k h e = rw (comes p k h e) refl
 

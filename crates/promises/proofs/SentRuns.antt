@@ -15,10 +15,10 @@ use Rattle.expand.proofs.SumLaws.{Bytes}
 use Rattle.reassembly.specs.Cover.{In, Has, Covers}
 use Rattle.reassembly.specs.Fresh.{begun}
 use Rattle.reassembly.specs.Parts.{Part, fits, out, told}
-use Rattle.reassembly.specs.Slots.{nodeOf, owner, gatesOf, isGate, held}
+use Rattle.reassembly.specs.Slots.{owner, gatesOf, isGate, held}
 use Rattle.reassembly.specs.Table.{Call, part, other, State, lentCall, comes, pass, step, Gives}
 use Rattle.reassembly.specs.declared.slot.Key.{Key}
-use Rattle.reassembly.specs.declared.slot.Node.{Node}
+use Rattle.reassembly.specs.declared.slot.Source.{Source}
 use Rattle.reassembly.specs.declared.part.Outcome.{Outcome}
 use Rattle.reassembly.proofs.Promises.{outcome-one}
 use Rattle.reassembly.proofs.Runs.{comes-brought, comes-part}
@@ -37,7 +37,7 @@ use Rattle.cutting.proofs.Tiling.{Each, pieces-each, startOf, endOf, pieces-cha
 use Rattle.promises.specs.Runs.{came}
 use Rattle.promises.specs.Frames.{Turn, callIn, Ran, endOf as endsAt, meant, Brings, partsOf, Supposed, Concluded}
 use Rattle.promises.specs.Cuttings.{Cutting}
-use Rattle.promises.specs.Sent.{keyFor, partFor, callFor, SentSupposed}
+use Rattle.promises.specs.Sent.{sender, keyFor, partFor, callFor, SentSupposed}
 use Rattle.promises.proofs.Engine.{In-left, In-right}
 use Rattle.promises.proofs.Frames.{part-one, came-in, out-front, demand-3}
 use Rattle.promises.proofs.Sent.{Cuts, frames-bring}
@@ -68,7 +68,7 @@ cuts l d fs b e =
     record { bytes = b; ready = in-range l d (inRange l d) refl (w .range); both = w .both; ours = w .ours }
 
 -- ---- what a call brings came
-came-has : (gs : List Node) (m : List ℕ) (k : Key) (hs : List Turn) (h : Turn) (p : Part) → In h hs → Brings gs m h p → p .key ≡ k → fits p ≡ true → In p (came k (map (meant gs m) hs))
+came-has : (gs : List Source) (m : List ℕ) (k : Key) (hs : List Turn) (h : Turn) (p : Part) → In h hs → Brings gs m h p → p .key ≡ k → fits p ≡ true → In p (came k (map (meant gs m) hs))
 unfolding came
 came-has gs m k [] h p i b e f = absurd i
 came-has gs m k (g ∷ hs) h p (inl q) b e f =
@@ -77,7 +77,7 @@ came-has gs m k (g ∷ hs) h p (inl q) b e f =
 came-has gs m k (g ∷ hs) h p (inr i) b e f = In-right p (comes k (meant gs m g)) (came k (map (meant gs m) hs)) (came-has gs m k hs h p i b e f)
 
 -- ---- a datagram in more than one frame
-module _ (gs : List Node) (m : List ℕ) (l : Link) (d : List ℕ) (fs : List (List ℕ)) (b : Bytes d) (e : cut l d ≡ is fs) (more : l .limit < macLength l + (headLength l d + (length d - covers d))) (past mid : List Turn) (c : Turn) (H : SentSupposed gs m l d fs past mid c) where
+module _ (gs : List Source) (m : List ℕ) (l : Link) (d : List ℕ) (fs : List (List ℕ)) (b : Bytes d) (e : cut l d ≡ is fs) (more : l .limit < macLength l + (headLength l d + (length d - covers d))) (past mid : List Turn) (c : Turn) (H : SentSupposed gs m l d fs past mid c) where
   abbrev ps : List Piece
   ps = pieces (planOf l d)
 
@@ -171,7 +171,7 @@ unfolding pieces wholeLength planOf
 one-piece l d h = rw (le-leb (macLength l + (headLength l d + (length d - covers d))) (l .limit) h) refl
 
 -- whatever the table σ holds: it lists the source address, its time is not past, and memory and output are long enough
-module _ (σ : State) (l : Link) (d : List ℕ) (fs : List (List ℕ)) (b : Bytes d) (e : cut l d ≡ is fs) (one : macLength l + (headLength l d + (length d - covers d)) ≤ l .limit) (lists : isGate (nodeOf (l .src)) (gatesOf (σ .table)) ≡ true) (enough : 16384 ≤ length (σ .mem)) (h : Turn) (sent : In (h .frame) fs) (time : σ .table .last ≤ h .time) (room : 2047 ≤ length (h .before)) where
+module _ (σ : State) (l : Link) (d : List ℕ) (fs : List (List ℕ)) (b : Bytes d) (e : cut l d ≡ is fs) (one : macLength l + (headLength l d + (length d - covers d)) ≤ l .limit) (lists : isGate (sender l) (gatesOf (σ .table)) ≡ true) (enough : 16384 ≤ length (σ .mem)) (h : Turn) (sent : In (h .frame) fs) (time : σ .table .last ≤ h .time) (room : 2047 ≤ length (h .before)) where
   whole-frame : h .frame ≡ frameOf l d Whole
   whole-frame = go (in-map (frameOf l d) (Whole ∷ []) (h .frame) (rw (cut-was l d fs e .frames, one-piece l d one) at sent))
     where

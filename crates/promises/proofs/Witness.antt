@@ -15,10 +15,10 @@ use Rattle.ieee802154.specs.declared.addr.Address.the-variants.{Short}
 use Rattle.marks.specs.Marks.{hasIn, fill, bits, unpack, val, packs, pack}
 use Rattle.expand.specs.Sum.{words, onesSum, pseudo, covered, udpChecksum, summed}
 use Rattle.reassembly.specs.Lists.{count, firstAt, those}
-use Rattle.reassembly.specs.Slots.{noNode, sameNode, present, sameKey, freeSlot, opened, isFree, isKey, isOf, expired, expire1, expire, gatesOf, isGate, held, free, idleOthers, mayOpen}
+use Rattle.reassembly.specs.Slots.{noNode, noSource, sameNode, sameSource, addressed, present, sameKey, freeSlot, opened, isFree, isKey, isOf, expired, expire1, expire, gatesOf, isGate, held, free, idleOthers, mayOpen}
 use Rattle.reassembly.specs.Parts.{Part, Reply, kept, out, refused, told, ofOutcome, outputAfter, units, fitsIn, fits, finish, spans, repeatsIn, takenIn, full, place, offer}
 use Rattle.reassembly.specs.Table.{part, State, withSlots, slotsAt, land, whereKey, whereFree, offerAt, openAt, takePart, lentCall, step, Gives, comes, next, run}
-use Rattle.reassembly.specs.Fresh.{seats, fresh, nodes, unfit, refusedList, Gateways, begun}
+use Rattle.reassembly.specs.Fresh.{seats, fresh, sources, unfit, refusedList, Gateways, begun}
 use Rattle.reassembly.specs.declared.slot.Key.{Key}
 use Rattle.reassembly.specs.declared.part.Outcome.{Outcome}
 use Rattle.reassembly.proofs.Fresh.{accepted}
@@ -31,14 +31,19 @@ use Rattle.promises.specs.Runs.{came, AllKept}
 use Rattle.promises.specs.Runs as Calls
 use Rattle.promises.specs.Frames.{Turn, callIn, Ran, endOf, Forward, meant, Brings, partsOf, Supposed, Concluded}
 use Rattle.promises.proofs.TwoParts.{low, high, halves, low-in, high-in, halves-cover, low-missing, high-missing}
+use Rattle.ieee802154.specs.declared.addr.PanField.{PanField}
+use Rattle.reassembly.specs.declared.table.Gateway.{Gateway}
 use Rattle.receiver.proofs.Names.{frame-part}
 use Rattle.promises.proofs.Frames.{Fixed, fixed-begun, fixed-next, call-is, ran-left, as-calls, demand-3}
 use Rattle.promises.proofs.Worked.{gateways, key, last-month, this-month, resent, first-frame, elided-frame, later-frame, first-brings, later-brings}
 
 -- the gateways are a list that `Table::new` takes
 listed : Gateways gateways
-unfolding nodes unfit refusedList count sameNode present
-listed = accepted 2 (Short 1 ∷ Short 2 ∷ []) (lit≤ tt) refl
+unfolding sources unfit refusedList count sameSource sameNode present addressed
+listed = accepted 2 (listedAs 1 ∷ listedAs 2 ∷ []) (lit≤ tt) refl
+  where
+    listedAs : ℕ → Gateway
+    listedAs a = record { addr = Short a; pan = PanField.Some (record { 0 = 0xabcd }) }
 
 -- ---- calls as the specification answers them
 
@@ -74,8 +79,8 @@ name-of : (t : ℕ) (s : List ℕ) (p : Part) → frameCall gateways [] t s ≡ 
 name-of t s p e = frame-part gateways [] t s t p e .name
 
 -- a frame that names another key
-not-named : {X : Type 0} (s : List ℕ) (a b : Key) (i j : ℕ) → a .src .number ≡ i → b .src .number ≡ j → (i ≡ j → ⊥) → named s ≡ is a → named s ≡ is b → X
-not-named s a b i j p q ne e f = let z : a ≡ b = cc in absurd (ne (sym p ∙ ap (λ (k : Key). k .src .number) z ∙ q))
+not-named : {X : Type 0} (s : List ℕ) (a b : Key) (i j : ℕ) → a .src .node .number ≡ i → b .src .node .number ≡ j → (i ≡ j → ⊥) → named s ≡ is a → named s ≡ is b → X
+not-named s a b i j p q ne e f = let z : a ≡ b = cc in absurd (ne (sym p ∙ ap (λ (k : Key). k .src .node .number) z ∙ q))
 
 only : (p q : Part) → In p (q ∷ []) → p ≡ q
 only p q (inl z) = z
@@ -139,7 +144,7 @@ module _ (m : List ℕ) (enough : 16384 ≤ length m) (o : List ℕ) (room : 204
       × (answered ((step σ₃ (part 1017 new-high)) .reply) ≡ true)
       × (held (key 2 .src) (σ₁ .table .slots) ≡ 0)
       × (held (key 1 .src) (begun gateways m .table .slots) ≡ 0)
-  unfolding hasIn fill bits unpack val packs pack count firstAt those noNode sameNode present sameKey freeSlot opened isFree isKey isOf expired expire1 expire gatesOf isGate held free idleOthers mayOpen units fitsIn spans repeatsIn takenIn full place offer withSlots slotsAt land whereKey whereFree offerAt openAt takePart step next seats fresh zeroed
+  unfolding hasIn fill bits unpack val packs pack count firstAt those noNode noSource sameSource sameNode present addressed sameKey freeSlot opened isFree isKey isOf expired expire1 expire gatesOf isGate held free idleOthers mayOpen units fitsIn spans repeatsIn takenIn full place offer withSlots slotsAt land whereKey whereFree offerAt openAt takePart step next seats fresh zeroed
   all-answered = (refl, refl, refl, refl, refl, refl)
 
   fixed₁ : Fixed gateways m σ₁
@@ -189,7 +194,7 @@ module _ (m : List ℕ) (enough : 16384 ≤ length m) (o : List ℕ) (room : 204
       × (partsOf gateways m (key 1) (h₁ ∷ h₂ ∷ h₃ ∷ []) ≡ old-high ∷ old-low ∷ [])
       × (partsOf gateways m (key 2) (h₂ ∷ h₃ ∷ []) ≡ new-low ∷ [])
       × (partsOf gateways m (key 2) (h₂ ∷ h₃ ∷ h₄ ∷ []) ≡ new-low ∷ new-high ∷ [])
-  unfolding partsOf came comes sameKey sameNode fitsIn zeroed
+  unfolding partsOf came comes sameKey sameSource sameNode fitsIn zeroed
   what-came = (rw (meant₁, meant₂), rw (meant₁, meant₂, meant₃), rw (meant₂, meant₃), rw (meant₂, meant₃, meant₄))
 
   of-old : (h : Turn) → In h (h₁ ∷ h₂ ∷ h₃ ∷ []) → named (h .frame) ≡ is (key 1) → (p : Part) × In p (old-cutting .parts) × Brings gateways m h p
@@ -297,7 +302,7 @@ module _ (m : List ℕ) (enough : 16384 ≤ length m) (o : List ℕ) (room : 204
   resent-came :
       (partsOf gateways m (key 1) (e₁ ∷ e₂ ∷ []) ≡ resent-low ∷ resent-low ∷ [])
       × (partsOf gateways m (key 1) (e₁ ∷ e₂ ∷ e₃ ∷ []) ≡ resent-low ∷ resent-low ∷ resent-high ∷ [])
-  unfolding partsOf came comes sameKey sameNode fitsIn zeroed
+  unfolding partsOf came comes sameKey sameSource sameNode fitsIn zeroed
   resent-came = (rw (elided₁, elided₂), rw (elided₁, elided₂, elided₃))
 
   of-resent : (h : Turn) → In h (e₁ ∷ e₂ ∷ e₃ ∷ []) → named (h .frame) ≡ is (key 1) → (p : Part) × In p (resent-cutting .parts) × Brings gateways m h p

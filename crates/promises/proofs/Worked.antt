@@ -22,9 +22,10 @@ use Rattle.expand.specs.Full as Full
 use Rattle.expand.specs.Expand as Expand
 use Rattle.incoming.specs.Incoming.{framed, arrival, piece, fragment, payload}
 use Rattle.reassembly.specs.Lists.{count}
-use Rattle.reassembly.specs.Slots.{sameNode, present, isGate}
+use Rattle.reassembly.specs.Slots.{sameNode, sameSource, addressed, present, isGate}
 use Rattle.reassembly.specs.Table.{part}
 use Rattle.reassembly.specs.declared.slot.Node.{Node}
+use Rattle.reassembly.specs.declared.slot.Source.{Source}
 use Rattle.reassembly.specs.declared.slot.Key.{Key}
 use Rattle.receiver.specs.Receive.{keyOf, welcome, admitted, frameCall}
 use Rattle.promises.specs.Cuttings.{zeroed}
@@ -33,12 +34,16 @@ use Rattle.promises.proofs.TwoParts.{low, high}
 abbrev pub short : ℕ → Node
 short n = record { kind = 1; number = n }
 
-abbrev pub gateways : List Node
-gateways = short 1 ∷ short 2 ∷ []
+-- under PAN abcd
+abbrev pub gate : ℕ → Source
+gate n = record { node = short n; pan = 0xabce }
+
+abbrev pub gateways : List Source
+gateways = gate 1 ∷ gate 2 ∷ []
 
 -- 64 bytes to the broadcast address under the tag 7, from the gateway n
 abbrev pub key : ℕ → Key
-key n = record { src = short n; dst = short 0xffff; size = 64; tag = 7 }
+key n = record { src = gate n; dst = short 0xffff; size = 64; tag = 7 }
 
 -- a datagram from fe80::ff:fe00:n to fe80::ff:fe00:ffff, ports f0b1 and f0b2, with the checksum's bytes and the data
 abbrev pub block : ℕ → ℕ → ℕ → List ℕ → List ℕ
@@ -90,12 +95,12 @@ module _ (t : ℕ) where
       (frameCall gateways [] t (first-frame 0x01 0x44 0xc7) ≡ part t (low (key 1) last-month 7 false))
       × (frameCall gateways [] t (first-frame 0x02 0x43 0xc6) ≡ part t (low (key 2) this-month 7 false))
       × (frameCall gateways [] t elided-frame ≡ part t (low (key 1) resent 7 true))
-  unfolding byte be16 le16 byteBytes be16Bytes be32Bytes be64Bytes put supported hasSequence hasAddressing carried01 carried panField addressField side sides addressing auxiliary Mac.sequenceOf Mac.reprOf Mac.headerRest Mac.header Mac.mac dispatchOf dispatch fragRest frag nextHeader nhcOf nhc bothPorts ports checksum udpRest udp Iphc.base Iphc.contexts Iphc.traffic Iphc.hopLimit Iphc.frontRest Iphc.front Iphc.identifier Iphc.prefixOf Iphc.elided Iphc.source Iphc.destination Iphc.addresses Iphc.reprOf Iphc.behind Iphc.iphc transport byNext headers Full.frontBytes Full.bothBytes Full.ipv6Bytes Full.udpBytes Expand.plain Expand.bytesOf Expand.sized Expand.expansion meshField broadcastField relay framed arrival piece fragment payload count sameNode present isGate keyOf welcome admitted frameCall zeroed
+  unfolding byte be16 le16 byteBytes be16Bytes be32Bytes be64Bytes put supported hasSequence hasAddressing carried01 carried panField addressField side sides addressing auxiliary Mac.sequenceOf Mac.reprOf Mac.headerRest Mac.header Mac.mac dispatchOf dispatch fragRest frag nextHeader nhcOf nhc bothPorts ports checksum udpRest udp Iphc.base Iphc.contexts Iphc.traffic Iphc.hopLimit Iphc.frontRest Iphc.front Iphc.identifier Iphc.prefixOf Iphc.elided Iphc.source Iphc.destination Iphc.addresses Iphc.reprOf Iphc.behind Iphc.iphc transport byNext headers Full.frontBytes Full.bothBytes Full.ipv6Bytes Full.udpBytes Expand.plain Expand.bytesOf Expand.sized Expand.expansion meshField broadcastField relay framed arrival piece fragment payload count sameSource sameNode present addressed isGate keyOf welcome admitted frameCall zeroed
   first-brings = (refl, refl, refl)
 
   pub later-brings :
       (frameCall gateways [] t (later-frame 0x01 0x30) ≡ part t (high (key 1) last-month 7 false))
       × (frameCall gateways [] t (later-frame 0x02 0x31) ≡ part t (high (key 2) this-month 7 false))
       × (frameCall gateways [] t (later-frame 0x01 0x31) ≡ part t (high (key 1) resent 7 true))
-  unfolding byte be16 le16 supported hasSequence hasAddressing carried01 carried panField addressField side sides addressing auxiliary Mac.sequenceOf Mac.reprOf Mac.headerRest Mac.header Mac.mac dispatchOf dispatch fragRest frag meshField broadcastField relay framed arrival piece fragment payload count sameNode present isGate keyOf welcome admitted frameCall zeroed
+  unfolding byte be16 le16 supported hasSequence hasAddressing carried01 carried panField addressField side sides addressing auxiliary Mac.sequenceOf Mac.reprOf Mac.headerRest Mac.header Mac.mac dispatchOf dispatch fragRest frag meshField broadcastField relay framed arrival piece fragment payload count sameSource sameNode present addressed isGate keyOf welcome admitted frameCall zeroed
   later-brings = (refl, refl, refl)

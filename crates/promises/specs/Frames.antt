@@ -9,7 +9,7 @@ use Rattle.reassembly.specs.Slots.{gatesOf}
 use Rattle.reassembly.specs.Parts.{Part}
 use Rattle.reassembly.specs.Table.{Call, part, State, step, Gives, takenSince}
 use Rattle.reassembly.specs.Fresh.{Gateways, begun}
-use Rattle.reassembly.specs.declared.slot.Node.{Node}
+use Rattle.reassembly.specs.declared.slot.Source.{Source}
 use Rattle.reassembly.specs.declared.slot.Key.{Key}
 use Rattle.reassembly.specs.declared.part.Outcome.{Outcome}
 use Rattle.reassembly.specs.declared.table.Received.{Received}
@@ -66,7 +66,7 @@ Forward n (h ∷ hs) = (n ≤ h .time) × Forward (h .time) hs
 
 -- ---- what comes under a key
 
-module _ (gs : List Node) (m : List ℕ) where
+module _ (gs : List Source) (m : List ℕ) where
   -- what comes in a call, to a table of the gateways gs and a memory as long as m
   abbrev pub meant : Turn → Call
   meant h = callOf m (h .before) gs (h .contexts) (h .time) (h .frame)
@@ -88,7 +88,7 @@ module _ (gs : List Node) (m : List ℕ) where
 -- What demand 3 supposes of what comes, and when. `past` is what came before the earliest part, `mid` what came from it on and before the
 -- covering call, and c is the covering call. Two premises stand apart (proofs/Frames.antt): that the calls are a run, `Ran`, and "a gateway
 -- holds no slot when the earliest part [..] comes".
-pub record Supposed (gs : List Node) (m : List ℕ) (k : Key) (d : List ℕ) (C : Cutting k d) (past mid : List Turn) (c : Turn) : Type 0 where
+pub record Supposed (gs : List Source) (m : List ℕ) (k : Key) (d : List ℕ) (C : Cutting k d) (past mid : List Turn) (c : Turn) : Type 0 where
   -- "From a fresh table with fixed gateways": a list that `Table::new` takes; no call changes it;
   pub gateways : Gateways gs
   -- "enough lent memory that only the calls write": m, handed from call to call as the call left it (`Ran`),
@@ -121,7 +121,7 @@ pub record Concluded (k : Key) (d : List ℕ) (mid : List Turn) (c : Turn) : Typ
 
 -- A datagram of n bytes that the call h handed out from a slot under k, after the calls hs: it stands at the output's start, and it is made of
 -- the parts taken under k since the slot's opening.
-pub record HandedOut (gs : List Node) (m : List ℕ) (k : Key) (hs : List Turn) (h : Turn) (n : ℕ) : Type 0 where
+pub record HandedOut (gs : List Source) (m : List ℕ) (k : Key) (hs : List Turn) (h : Turn) (n : ℕ) : Type 0 where
   pub datagram : List ℕ
   pub length-is : length datagram ≡ n
   pub output : h .output ≡ datagram ++ drop n (h .before)

@@ -9,7 +9,7 @@ use Rattle.reassembly.specs.Slots.{owner, isGate}
 use Rattle.reassembly.specs.Parts.{Part, kept, out}
 use Rattle.reassembly.specs.Table.{Call, part, State, step, after, comes, next, run}
 use Rattle.reassembly.specs.Fresh.{Gateways}
-use Rattle.reassembly.specs.declared.slot.Node.{Node}
+use Rattle.reassembly.specs.declared.slot.Source.{Source}
 use Rattle.reassembly.specs.declared.slot.Key.{Key}
 use Rattle.reassembly.specs.Cover.{In, Covers}
 use Rattle.promises.specs.Cuttings.{Cutting}
@@ -32,7 +32,7 @@ AllKept k σ (c ∷ cs) = ((p : Part) → comes k c ≡ p ∷ [] → (step σ c)
 -- What demand 3 supposes. `past` is what came before the earliest part, `mid` what came from it on and before the covering call, and the
 -- covering call brings q at t. One premise stands apart (proofs/Runs.antt), "a gateway holds no slot when the earliest part [..] comes": less
 -- suffices, `Ready` at the time of the earliest part.
-pub record Supposed (gs : List Node) (m : List ℕ) (k : Key) (d : List ℕ) (C : Cutting k d) (past mid : List Call) (t : ℕ) (q : Part) : Type 0 where
+pub record Supposed (gs : List Source) (m : List ℕ) (k : Key) (d : List ℕ) (C : Cutting k d) (past mid : List Call) (t : ℕ) (q : Part) : Type 0 where
   -- "From a fresh table with fixed gateways": the run begins at `begun gs m`, and no call changes the gateways;
   pub gateways : Gateways gs
   -- "enough lent memory that only the calls write": m, handed from call to call as the call left it;

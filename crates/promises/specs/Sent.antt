@@ -5,7 +5,7 @@ use mathlib.Core.Bool.{true, false}
 use mathlib.Core.List.{List, [], _∷_, _++_}
 use lib.ListN.{length, take, drop}
 use Rattle.octets.specs.Read.{is}
-use Rattle.reassembly.specs.Slots.{nodeOf, isGate}
+use Rattle.reassembly.specs.Slots.{nodeOf, sourceOf, isGate}
 use Rattle.reassembly.specs.Cover.{In}
 use Rattle.reassembly.specs.Fresh.{Gateways}
 use Rattle.reassembly.specs.Parts as Parts
@@ -13,7 +13,8 @@ use Rattle.reassembly.specs.Parts.{Part, partOf}
 use Rattle.reassembly.specs.Table as Table
 use Rattle.reassembly.specs.Table.{Call, other}
 use Rattle.reassembly.specs.declared.slot.Key.{Key}
-use Rattle.reassembly.specs.declared.slot.Node.{Node}
+use Rattle.reassembly.specs.declared.slot.Source.{Source}
+use Rattle.ieee802154.specs.declared.addr.PanField.{PanField}
 use Rattle.receiver.specs.Names.{named}
 use Rattle.promises.specs.Frames.{Turn, Forward}
 use Rattle.cutting.specs.Head.{covers}
@@ -21,8 +22,12 @@ use Rattle.cutting.specs.declared.link.Link.{Link}
 use Rattle.cutting.specs.declared.piece.Piece.{Piece}
 use Rattle.cutting.specs.declared.piece.Piece.the-variants.{Whole, First, Later}
 
+-- who sends: the source under the PAN that the frames carry
+abbrev pub sender : Link → Source
+sender l = sourceOf (l .src) (PanField.Some (l .pan))
+
 abbrev pub keyFor : Link → List ℕ → Key
-keyFor l d = record { src = nodeOf (l .src); dst = nodeOf (l .dst); size = length d; tag = l .tag }
+keyFor l d = record { src = sender l; dst = nodeOf (l .dst); size = length d; tag = l .tag }
 
 -- the part that a piece is: the first one in full, from byte 0; the checksum is carried
 abbrev pub partFor : Link → List ℕ → Piece → Part
@@ -36,12 +41,12 @@ callFor l d t Whole = other t (Parts.out d)
 callFor l d t (First n) = Table.part t (partFor l d (First n))
 callFor l d t (Later at n) = Table.part t (partFor l d (Later at n))
 
--- "These frames in any order, each at least once, fed as demand 3 asks to a table that lists the source address": fs are the frames of the
+-- "These frames in any order, each at least once, fed as demand 3 asks to a table that lists the source with its PAN": fs are the frames of the
 -- cutting; `past` is what came before the earliest of them, `mid` what came from it on and before the call c, and c brings the last.
-pub record SentSupposed (gs : List Node) (m : List ℕ) (l : Link) (d : List ℕ) (fs : List (List ℕ)) (past mid : List Turn) (c : Turn) : Type 0 where
-  -- a fresh table with fixed gateways, of which the source address is one; enough lent memory; a clock that never goes back
+pub record SentSupposed (gs : List Source) (m : List ℕ) (l : Link) (d : List ℕ) (fs : List (List ℕ)) (past mid : List Turn) (c : Turn) : Type 0 where
+  -- a fresh table with fixed gateways, of which the source with its PAN is one; enough lent memory; a clock that never goes back
   pub gateways : Gateways gs
-  pub lists : isGate (nodeOf (l .src)) gs ≡ true
+  pub lists : isGate (sender l) gs ≡ true
   pub enough : 16384 ≤ length m
   pub forward : Forward 0 (past ++ (mid ++ (c ∷ [])))
   -- the first of the calls from there on brings a frame of the cutting
@@ -49,7 +54,7 @@ pub record SentSupposed (gs : List Node) (m : List ℕ) (l : Link) (d : List ℕ
   pub then : List Turn
   pub earliest : mid ++ (c ∷ []) ≡ first ∷ then
   pub earliest-sent : In (first .frame) fs
-  -- nothing else comes meanwhile under its source, destination, size and tag; each has room for the datagram
+  -- nothing else comes meanwhile under its source with PAN, destination, size and tag; each has room for the datagram
   pub only : (h : Turn) → In h (mid ++ (c ∷ [])) → named (h .frame) ≡ is (keyFor l d) → In (h .frame) fs
   pub room : (h : Turn) → In h (mid ++ (c ∷ [])) → In (h .frame) fs → 2047 ≤ length (h .before)
   -- "each at least once"

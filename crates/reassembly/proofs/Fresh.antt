@@ -14,49 +14,49 @@ use Rattle.octets.specs.Read.{Answer, refused}
 use Rattle.octets.specs.Refusal.{numberOf}
 use Rattle.octets.specs.declared.refusal.Refusal.{Refusal}
 use Rattle.octets.proofs.Spans.{not-refused}
-use Rattle.ieee802154.specs.declared.addr.Address.{Address}
 use Rattle.reassembly.specs.Lists.{bit, count, firstAt, those}
-use Rattle.reassembly.specs.Slots.{nodeOf, noNode, sameNode, present, freeSlot}
-use Rattle.reassembly.specs.Fresh.{ofListed, seats, fresh, nodes, unfit, refusedList, listed, made, Begins, Gateways}
-use Rattle.reassembly.specs.declared.slot.Node.{Node}
+use Rattle.reassembly.specs.Slots.{noSource, sameSource, present, freeSlot}
+use Rattle.reassembly.specs.Fresh.{ofListed, gateOf, seats, fresh, sources, unfit, refusedList, listed, made, Begins, Gateways}
+use Rattle.reassembly.specs.declared.slot.Source.{Source}
 use Rattle.reassembly.specs.declared.table.Table.{Table}
 use Rattle.reassembly.specs.declared.table.Listed.{Listed}
+use Rattle.reassembly.specs.declared.table.Gateway.{Gateway}
 use Rattle.reassembly.proofs.Tests.{by-test, by-order, not-true-false, no-both, or-cases}
 use Rattle.reassembly.proofs.Lists.{count-at, firstAt-found, firstAt-holds}
-use Rattle.reassembly.proofs.Slots.{sameNode-eq}
+use Rattle.reassembly.proofs.Slots.{sameSource-eq}
 
 -- ---- seats
 
-seat-set : (l : List Address) (i k : ℕ) (d : Address) → i < length l
-    → set (map nodeOf (take i l) ++ replicate (suc k) noNode) i (nodeOf (getD l i d)) ≡ map nodeOf (take (suc i) l) ++ replicate k noNode
+seat-set : (l : List Gateway) (i k : ℕ) (d : Gateway) → i < length l
+    → set (map gateOf (take i l) ++ replicate (suc k) noSource) i (gateOf (getD l i d)) ≡ map gateOf (take (suc i) l) ++ replicate k noSource
 seat-set [] i k d h = absurd (not-suc-le-zero h)
 seat-set (a ∷ l) zero k d h = refl
-seat-set (a ∷ l) (suc i) k d h = ap (λ z. nodeOf a ∷ z) (seat-set l i k d (le-of-suc-le-suc h))
+seat-set (a ∷ l) (suc i) k d h = ap (λ z. gateOf a ∷ z) (seat-set l i k d (le-of-suc-le-suc h))
 
-pub length-nodes : (n : ℕ) (l : List Address) → n ≤ length l → length (nodes n l) ≡ n
-unfolding nodes
-length-nodes n l h = length-map (take n l) nodeOf ∙ length-take-le n l h
+pub length-sources : (n : ℕ) (l : List Gateway) → n ≤ length l → length (sources n l) ≡ n
+unfolding sources
+length-sources n l h = length-map (take n l) gateOf ∙ length-take-le n l h
 
-pub seat-none : (l : List Address) → replicate 4 noNode ≡ seats (nodes 0 l)
-unfolding seats nodes
+pub seat-none : (l : List Gateway) → replicate 4 noSource ≡ seats (sources 0 l)
+unfolding seats sources
 seat-none l = refl
 
-pub seat-more : (l : List Address) (i : ℕ) (d : Address) → length l ≡ 4 → i < 4 → set (seats (nodes i l)) i (nodeOf (getD l i d)) ≡ seats (nodes (i + 1) l)
-unfolding seats nodes
+pub seat-more : (l : List Gateway) (i : ℕ) (d : Gateway) → length l ≡ 4 → i < 4 → set (seats (sources i l)) i (gateOf (getD l i d)) ≡ seats (sources (i + 1) l)
+unfolding seats sources
 seat-more l i d n h =
-    let a : length (map nodeOf (take i l)) ≡ i = length-map (take i l) nodeOf ∙ length-take-le i l (omega arith) in
-    let b : length (map nodeOf (take (suc i) l)) ≡ suc i = length-map (take (suc i) l) nodeOf ∙ length-take-le (suc i) l (omega arith) in
+    let a : length (map gateOf (take i l)) ≡ i = length-map (take i l) gateOf ∙ length-take-le i l (omega arith) in
+    let b : length (map gateOf (take (suc i) l)) ≡ suc i = length-map (take (suc i) l) gateOf ∙ length-take-le (suc i) l (omega arith) in
     let k : 4 - i ≡ suc (4 - suc i) = omega arith in
     rw (add-one, a, b, k) (seat-set l i (4 - suc i) d (omega arith))
 
-pub take-seats : (n : ℕ) (l : List Address) → n ≤ length l → take n (seats (nodes n l)) ≡ nodes n l
+pub take-seats : (n : ℕ) (l : List Gateway) → n ≤ length l → take n (seats (sources n l)) ≡ sources n l
 unfolding seats
-take-seats n l h = take-at (nodes n l) (replicate (4 - length (nodes n l)) noNode) n (length-nodes n l h)
+take-seats n l h = take-at (sources n l) (replicate (4 - length (sources n l)) noSource) n (length-sources n l h)
 
 -- ---- what `Table::new` answers
 
-module _ (n : ℕ) (l : List Address) where
-  begins-refused : refusedList n (nodes n l) ≡ true → (y : Listed) (x : Table) → y ≡ Listed.Refused Refusal.BadGateways → x ≡ fresh [] → Begins y x n l
+module _ (n : ℕ) (l : List Gateway) where
+  begins-refused : refusedList n (sources n l) ≡ true → (y : Listed) (x : Table) → y ≡ Listed.Refused Refusal.BadGateways → x ≡ fresh [] → Begins y x n l
   unfolding listed made
   begins-refused h y x e f = record { answer = ap ofListed e ∙ rw h; table = f ∙ rw h }
 
@@ -65,30 +65,30 @@ module _ (n : ℕ) (l : List Address) where
   begins-long h = begins-refused (rw (lt-ltb 4 n h))
 
   module _ (short : n ≤ 4) where
-    pub begins-unfit : leb 1 (count (unfit (nodes n l)) (nodes n l)) ≡ true → (y : Listed) (x : Table) → y ≡ Listed.Refused Refusal.BadGateways → x ≡ fresh [] → Begins y x n l
+    pub begins-unfit : leb 1 (count (unfit (sources n l)) (sources n l)) ≡ true → (y : Listed) (x : Table) → y ≡ Listed.Refused Refusal.BadGateways → x ≡ fresh [] → Begins y x n l
     unfolding refusedList
     begins-unfit h = begins-refused (rw (le-ltb 4 n short, h))
 
-    pub begins : leb 1 (count (unfit (nodes n l)) (nodes n l)) ≡ false → (x : Table) → x ≡ record { slots = replicate 8 freeSlot; last = 0; gateways = seats (nodes n l) } → Begins Listed.Accepted x n l
+    pub begins : leb 1 (count (unfit (sources n l)) (sources n l)) ≡ false → (x : Table) → x ≡ record { slots = replicate 8 freeSlot; last = 0; gateways = seats (sources n l) } → Begins Listed.Accepted x n l
     unfolding refusedList listed made fresh
     begins h x e = record { answer = rw (le-ltb 4 n short, h); table = e ∙ rw (le-ltb 4 n short, h) }
 
 -- ---- a list that is not refused
 
-fit-present : (gs : List Node) (g : Node) → unfit gs g ≡ false → present g ≡ true
+fit-present : (gs : List Source) (g : Source) → unfit gs g ≡ false → present g ≡ true
 unfolding unfit
 fit-present gs g e = by-test (present g) (λ h. h) (λ h. no-both true refl (rw h at e))
 
-all-fit : (gs l : List Node) → count (unfit gs) l ≡ 0 → those present l ≡ l
+all-fit : (gs l : List Source) → count (unfit gs) l ≡ 0 → those present l ≡ l
 unfolding count those
 all-fit gs [] z = refl
 all-fit gs (g ∷ l) z = by-test (unfit gs g)
     (λ e. let b : bit (unfit gs g) ≡ 1 = rw e in absurd (omega arith))
     (λ e. rw (fit-present gs g e) (ap (λ r. g ∷ r) (all-fit gs l (omega arith))))
 
-fit-once : (gs : List Node) (g : Node) → unfit gs g ≡ false → count (sameNode g) gs ≤ 1
+fit-once : (gs : List Source) (g : Source) → unfit gs g ≡ false → count (sameSource g) gs ≤ 1
 unfolding unfit
-fit-once gs g e = by-order (count (sameNode g) gs) 1 (λ h. h) (λ h. no-both true refl (rw (lt-ltb 1 (count (sameNode g) gs) h, or-true (not (present g))) at e))
+fit-once gs g e = by-order (count (sameSource g) gs) 1 (λ h. h) (λ h. no-both true refl (rw (lt-ltb 1 (count (sameSource g) gs) h, or-true (not (present g))) at e))
   where
     or-true : (b : Bool) → (b || true) ≡ true
     or-true true = refl
@@ -98,52 +98,52 @@ or-no : (a b : Bool) → (a || b) ≡ false → (a ≡ false) × (b ≡ false)
 or-no true b q = (cc, cc)
 or-no false b q = (refl, q)
 
-pub accepted : (n : ℕ) (l : List Address) → n ≤ length l → refusedList n (nodes n l) ≡ false → Gateways (nodes n l)
+pub accepted : (n : ℕ) (l : List Gateway) → n ≤ length l → refusedList n (sources n l) ≡ false → Gateways (sources n l)
 unfolding refusedList
 accepted n l h e =
-    let gs = nodes n l in
+    let gs = sources n l in
     let w = or-no (ltb 4 n) (leb 1 (count (unfit gs) gs)) e in
     let z : count (unfit gs) gs ≡ 0 = omega (arith, leb-false 1 (count (unfit gs) gs) (w .1)) in
     let short = ltb-false 4 n (w .0) in
     record {
-      four = omega (arith, length-nodes n l h);
+      four = omega (arith, length-sources n l h);
       seated = all-fit gs gs z;
-      distinct = λ g. by-order 1 (count (sameNode g) gs)
+      distinct = λ g. by-order 1 (count (sameSource g) gs)
           (λ c.
-          let i = firstAt (sameNode g) gs in
-          let low = firstAt-found (sameNode g) gs c in
-          let same : g ≡ getD gs i noNode = sameNode-eq g (getD gs i noNode) (firstAt-holds (sameNode g) gs noNode low) in
-          let fit : unfit gs (getD gs i noNode) ≡ false = not-true-false (unfit gs (getD gs i noNode)) (λ u. omega (arith, count-at (unfit gs) gs i noNode low u)) in
-          rw same (fit-once gs (getD gs i noNode) fit))
+          let i = firstAt (sameSource g) gs in
+          let low = firstAt-found (sameSource g) gs c in
+          let same : g ≡ getD gs i noSource = sameSource-eq g (getD gs i noSource) (firstAt-holds (sameSource g) gs noSource low) in
+          let fit : unfit gs (getD gs i noSource) ≡ false = not-true-false (unfit gs (getD gs i noSource)) (λ u. omega (arith, count-at (unfit gs) gs i noSource low u)) in
+          rw same (fit-once gs (getD gs i noSource) fit))
           (λ c. omega arith);
     }
 
 -- ---- what the answer says of the list
 
-pub nodes-are : (n : ℕ) (l : List Address) → nodes n l ≡ map nodeOf (take n l)
-unfolding nodes
-nodes-are n l = refl
+pub sources-are : (n : ℕ) (l : List Gateway) → sources n l ≡ map gateOf (take n l)
+unfolding sources
+sources-are n l = refl
 
-pub refuses-long : (n : ℕ) (gs : List Node) → 4 < n → refusedList n gs ≡ true
+pub refuses-long : (n : ℕ) (gs : List Source) → 4 < n → refusedList n gs ≡ true
 unfolding refusedList
 refuses-long n gs h = rw (lt-ltb 4 n h)
 
-pub not-long : (n : ℕ) (gs : List Node) → refusedList n gs ≡ false → n ≤ 4
+pub not-long : (n : ℕ) (gs : List Source) → refusedList n gs ≡ false → n ≤ 4
 unfolding refusedList
 not-long n gs e = ltb-false 4 n (or-no (ltb 4 n) (leb 1 (count (unfit gs) gs)) e .0)
 
-module _ (n : ℕ) (l : List Address) (y : Listed) (x : Table) (B : Begins y x n l) where
-  pub when-fit : refusedList n (nodes n l) ≡ false → x ≡ fresh (nodes n l)
+module _ (n : ℕ) (l : List Gateway) (y : Listed) (x : Table) (B : Begins y x n l) where
+  pub when-fit : refusedList n (sources n l) ≡ false → x ≡ fresh (sources n l)
   unfolding made
   when-fit e = rw e at (B .table)
 
-  pub when-accepted : y ≡ Listed.Accepted → refusedList n (nodes n l) ≡ false
+  pub when-accepted : y ≡ Listed.Accepted → refusedList n (sources n l) ≡ false
   unfolding listed
-  when-accepted a = by-test (refusedList n (nodes n l)) (λ e. not-refused tt 14 (sym (B .answer ∙ rw e) ∙ ap ofListed a)) (λ e. e)
+  when-accepted a = by-test (refusedList n (sources n l)) (λ e. not-refused tt 14 (sym (B .answer ∙ rw e) ∙ ap ofListed a)) (λ e. e)
 
-  pub when-refused : (r : Refusal) → y ≡ Listed.Refused r → (refusedList n (nodes n l) ≡ true) × (numberOf r ≡ 14)
+  pub when-refused : (r : Refusal) → y ≡ Listed.Refused r → (refusedList n (sources n l) ≡ true) × (numberOf r ≡ 14)
   unfolding listed
-  when-refused r a = by-test (refusedList n (nodes n l))
+  when-refused r a = by-test (refusedList n (sources n l))
       (λ e. (e, number-is (sym (ap ofListed a) ∙ B .answer ∙ rw e)))
       (λ e. not-refused tt (numberOf r) (sym (ap ofListed a) ∙ B .answer ∙ rw e))
     where
@@ -151,12 +151,12 @@ module _ (n : ℕ) (l : List Address) (y : Listed) (x : Table) (B : Begins y x n
       number-is q = cc q
 
 -- the table that `Table::new` makes of a list that it accepts is a fresh one, and the list is one that 14 lets pass
-pub new-fresh : (n : ℕ) (l : List Address) (x : Table) → length l ≡ 4 → Begins Listed.Accepted x n l → (x ≡ fresh (nodes n l)) × Gateways (nodes n l)
+pub new-fresh : (n : ℕ) (l : List Gateway) (x : Table) → length l ≡ 4 → Begins Listed.Accepted x n l → (x ≡ fresh (sources n l)) × Gateways (sources n l)
 new-fresh n l x four B =
     let e = when-accepted n l Listed.Accepted x B refl in
-    (when-fit n l Listed.Accepted x B e, accepted n l (omega (arith, not-long n (nodes n l) e)) e)
+    (when-fit n l Listed.Accepted x B e, accepted n l (omega (arith, not-long n (sources n l) e)) e)
 
 -- its last time
-pub fresh-last : (gs : List Node) → fresh gs .last ≡ 0
+pub fresh-last : (gs : List Source) → fresh gs .last ≡ 0
 unfolding fresh
 fresh-last gs = refl

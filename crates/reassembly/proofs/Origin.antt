@@ -13,7 +13,7 @@ use Rattle.reassembly.specs.Slots.{sameKey, freeSlot, opened, isKey, exp
 use Rattle.reassembly.specs.Parts.{Part, Reply, kept, out, refused, fits, repeats, touches, takenIn, taken, written, full, finish, Put, place, offer}
 use Rattle.reassembly.specs.Table.{Call, short, other, part, State, Result, chunk, splice, withSlots, untouched, slotsAt, pass, land, offerAt, openAt, step, next, run, note, takenSince}
 use Rattle.reassembly.specs.Fresh.{fresh, begun}
-use Rattle.reassembly.specs.declared.slot.Node.{Node}
+use Rattle.reassembly.specs.declared.slot.Source.{Source}
 use Rattle.reassembly.specs.declared.slot.Key.{Key}
 use Rattle.reassembly.specs.declared.slot.Slot.{Slot}
 use Rattle.reassembly.proofs.Tests.{no-both, by-test, not-true-false}
@@ -335,7 +335,7 @@ did-made k σ h d G (offered t p j O) T u a = made-offered k σ h d G t p j O T 
 did-made k σ h d G (opens t p j O) T u a = made-opens k σ h d G t p j O u a
 
 -- nothing is open in a fresh table
-pub fresh-told : (gs : List Node) (m : List ℕ) (k : Key) → Told k (begun gs m) []
+pub fresh-told : (gs : List Source) (m : List ℕ) (k : Key) → Told k (begun gs m) []
 unfolding fresh
 fresh-told gs m k i s b H =
     let z = count-replicate (isKey k) freeSlot 8 (freeSlot-key k) in

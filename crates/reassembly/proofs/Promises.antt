@@ -9,14 +9,14 @@ use mathlib.Core.List.{List, [], _∷_, _++_}
 use lib.ListN.{length, getD}
 use Rattle.octets.specs.Refusal.{numberOf}
 use Rattle.octets.proofs.Unique.{number-one}
-use Rattle.ieee802154.specs.declared.addr.Address.{Address}
+use Rattle.reassembly.specs.declared.table.Gateway.{Gateway}
 use Rattle.reassembly.specs.Lists.{count, firstAt}
 use Rattle.reassembly.specs.Slots.{opened, isFree, expired, gatesOf, isGate, held, free, mayOpen, opening}
 use Rattle.reassembly.specs.Parts.{Part, Reply, kept, out, refused, told, ofOutcome, Put}
 use Rattle.reassembly.specs.Table.{Call, part, State, Result, slotsAt, step, run, opensIn, endsIn, takenSince, Lands, Gives}
 use Rattle.reassembly.specs.Cover.{In, Has, MadeOf}
 use Rattle.reassembly.specs.Fresh.{Begins, ofListed, Gateways, begun}
-use Rattle.reassembly.specs.declared.slot.Node.{Node}
+use Rattle.reassembly.specs.declared.slot.Source.{Source}
 use Rattle.reassembly.specs.declared.slot.Key.{Key}
 use Rattle.reassembly.specs.declared.slot.Slot.{Slot}
 use Rattle.reassembly.specs.declared.part.Outcome.{Outcome}
@@ -30,12 +30,12 @@ use Rattle.reassembly.proofs.Parts.{finish-byte}
 use Rattle.reassembly.proofs.Origin.{did-made, run-told, fresh-told, taken-snoc}
 use Rattle.reassembly.proofs.Runs.{Good, good-at, step-did, fresh-good, fresh-free, run-good, run-count}
 
-module _ (gs : List Node) (m : List ℕ) (W : Gateways gs) (h : 16384 ≤ length m) (cs : List Call) where
+module _ (gs : List Source) (m : List ℕ) (W : Gateways gs) (h : 16384 ≤ length m) (cs : List Call) where
   good : Good (run (begun gs m) cs)
   good = run-good cs (begun gs m) (fresh-good gs m W h)
 
   -- "No gateway ever holds over three slots."
-  pub three : (g : Node) → held g (run (begun gs m) cs .table .slots) ≤ 3
+  pub three : (g : Source) → held g (run (begun gs m) cs .table .slots) ≤ 3
   three g = good .sound .cap g
 
   -- the free slots are never fewer than the gateways that hold none
@@ -43,7 +43,7 @@ module _ (gs : List Node) (m : List ℕ) (W : Gateways gs) (h : 16384 ≤ length
   reserved = free-for-idle (gatesOf (run (begun gs m) cs .table)) (run (begun gs m) cs .table .slots) (good .sound)
 
   -- a gateway that holds none, once a call at t has freed the old slots, can open one
-  pub can-open : (t : ℕ) (g : Node) → isGate g (gatesOf (run (begun gs m) cs .table)) ≡ true → held g (slotsAt t (run (begun gs m) cs)) ≡ 0
+  pub can-open : (t : ℕ) (g : Source) → isGate g (gatesOf (run (begun gs m) cs .table)) ≡ true → held g (slotsAt t (run (begun gs m) cs)) ≡ 0
       → opening g (gatesOf (run (begun gs m) cs .table)) (slotsAt t (run (begun gs m) cs)) < 8
   unfolding opening free
   can-open t g k z =
@@ -117,5 +117,5 @@ lands-one q i m₀ o₀ y z m m′ o o′ A B =
     let t : y .slot ≡ z .slot = A .slot ∙ sym (B .slot) in
     (ap₂ (λ (x : Outcome) (u : Slot). record { outcome = x; slot = u }) a t, A .memory ∙ sym (B .memory), A .output ∙ sym (B .output))
 
-pub begun-one : (n : ℕ) (l : List Address) (y z : Listed) (x u : Table) → Begins y x n l → Begins z u n l → (y ≡ z) × (x ≡ u)
+pub begun-one : (n : ℕ) (l : List Gateway) (y z : Listed) (x u : Table) → Begins y x n l → Begins z u n l → (y ≡ z) × (x ≡ u)
 begun-one n l y z x u A B = (listed-one y z (A .answer ∙ sym (B .answer)), A .table ∙ sym (B .table))

@@ -11,17 +11,17 @@ use lib.Dec.{ltb}
 use borrow.Author.Tests.{ltb-true, ltb-false, lt-ltb, le-ltb, le-leb, leb-true}
 use Rattle.octets.specs.Read.{choose}
 use Rattle.reassembly.specs.Lists.{bit, count, firstAt, those}
-use Rattle.reassembly.specs.Slots.{noNode, sameNode, present, sameKey, owner, busy, freeSlot, opened, isFree, isKey, isOf, expired, gatesOf, isGate, held, free, mayOpen}
+use Rattle.reassembly.specs.Slots.{noNode, addressed, noSource, sameSource, present, sameKey, owner, busy, freeSlot, opened, isFree, isKey, isOf, expired, gatesOf, isGate, held, free, mayOpen}
 use Rattle.reassembly.specs.Parts.{Part, Reply, kept, out, refused, fits, repeats, touches, takenIn, taken, written, full, Put, place, offer}
 use Rattle.reassembly.specs.Table.{Call, short, other, part, State, Result, chunk, splice, withSlots, untouched, slotsAt, aged, pass, land, whereKey, whereFree, offerAt, openAt, takePart, step, At, comes, Ready, after, next, run, opensIn, endsIn}
 use Rattle.reassembly.specs.Fresh.{seats, fresh, Gateways, begun}
-use Rattle.reassembly.specs.declared.slot.Node.{Node}
+use Rattle.reassembly.specs.declared.slot.Source.{Source}
 use Rattle.reassembly.specs.declared.slot.Key.{Key}
 use Rattle.reassembly.specs.declared.slot.Slot.{Slot}
 use Rattle.reassembly.specs.declared.table.Table.{Table}
 use Rattle.reassembly.proofs.Tests.{no-both, by-test, by-order, not-true-false, and-left, and-right}
 use Rattle.reassembly.proofs.Lists.{count-set, count-at, count-le, count-none, count-replicate, firstAt-holds, firstAt-found, firstAt-none, firstAt-only}
-use Rattle.reassembly.proofs.Slots.{sameNode-eq, sameNode-refl, sameKey-eq, sameKey-refl}
+use Rattle.reassembly.proofs.Slots.{sameSource-eq, sameSource-refl, sameKey-eq, sameKey-refl}
 use Rattle.reassembly.proofs.Gateways.{isKey-busy, isKey-key, isKey-isOf, length-expire, expire1-young, getD-expire, count-expire, freeSlot-free, freeSlot-key, freeSlot-of, freeSlot-stray, young, busy-not-free, free-expire, stray, load, idle, Sound, free-for-idle, sound-expire, After, freed, stays, sound-land, MayOpen, mayOpen-rule, mayOpen-none, sound-open}
 use Rattle.reassembly.proofs.Parts.{place-length, offer-length}
 use Rattle.reassembly.proofs.Memory.{length-chunk, length-splice, chunk-same, chunk-other}
@@ -349,7 +349,7 @@ none-ready k σ t G gate z = record {
 }
 
 -- a gateway that holds no slot before the call holds none as the call finds the table
-pub none-before : (g : Node) (σ : State) (t : ℕ) → held g (σ .table .slots) ≡ 0 → held g (slotsAt t σ) ≡ 0
+pub none-before : (g : Source) (σ : State) (t : ℕ) → held g (σ .table .slots) ≡ 0 → held g (slotsAt t σ) ≡ 0
 unfolding slotsAt held
 none-before g σ t z = omega (arith, count-expire (isOf g) t (σ .table .slots) (freeSlot-of g))
 
@@ -435,29 +435,29 @@ comes-part k t q e f = let g : sameKey (q .key) k ≡ true = rw e (sameKey-refl 
 
 -- ---- a fresh table
 
-load-none : (gs : List Node) (l : List Slot) → ((g : Node) → held g l ≡ 0) → load gs l ≡ length gs
+load-none : (gs : List Source) (l : List Slot) → ((g : Source) → held g l ≡ 0) → load gs l ≡ length gs
 unfolding load
 load-none [] l f = refl
 load-none (g ∷ gs) l f = let r = load-none gs l f in let z = f g in omega arith
 
-those-append : (gs hs : List Node) → those present (gs ++ hs) ≡ those present gs ++ those present hs
+those-append : (gs hs : List Source) → those present (gs ++ hs) ≡ those present gs ++ those present hs
 unfolding those
 those-append [] hs = refl
 those-append (g ∷ gs) hs = by-test (present g) (λ e. rw (e, those-append gs hs)) (λ e. rw (e, those-append gs hs))
 
-those-empty : (n : ℕ) → those present (replicate n noNode) ≡ []
-unfolding those present noNode
+those-empty : (n : ℕ) → those present (replicate n noSource) ≡ []
+unfolding those present noSource addressed noNode
 those-empty zero = refl
 those-empty (suc n) = those-empty n
 
-pub gates-fresh : (gs : List Node) → Gateways gs → gatesOf (fresh gs) ≡ gs
+pub gates-fresh : (gs : List Source) → Gateways gs → gatesOf (fresh gs) ≡ gs
 unfolding gatesOf fresh seats
-gates-fresh gs W = those-append gs (replicate (4 - length gs) noNode) ∙ rw (those-empty (4 - length gs), W .seated) (append-nil gs)
+gates-fresh gs W = those-append gs (replicate (4 - length gs) noSource) ∙ rw (those-empty (4 - length gs), W .seated) (append-nil gs)
 
-pub fresh-good : (gs : List Node) (m : List ℕ) → Gateways gs → 16384 ≤ length m → Good (begun gs m)
+pub fresh-good : (gs : List Source) (m : List ℕ) → Gateways gs → 16384 ≤ length m → Good (begun gs m)
 fresh-good gs m W h = record { sound = rw (gates-fresh gs W) sound′; room = h }
   where
-    none : (g : Node) → held g (replicate 8 freeSlot) ≡ 0
+    none : (g : Source) → held g (replicate 8 freeSlot) ≡ 0
     none g = unfold held in (count-replicate (isOf g) freeSlot 8 (freeSlot-of g))
 
     sound′ : Sound gs (fresh gs .slots)
@@ -470,7 +470,7 @@ fresh-good gs m W h = record { sound = rw (gates-fresh gs W) sound′; room = h 
       distinct = W .distinct;
     }
 
-pub fresh-free : (gs : List Node) → free (fresh gs .slots) ≡ 8
+pub fresh-free : (gs : List Source) → free (fresh gs .slots) ≡ 8
 unfolding fresh free isFree freeSlot count
 fresh-free gs = refl
 

@@ -3,8 +3,9 @@ ghost use mathlib.Core.Path.{_≡_};
 ghost use mathlib.Core.Bool.{_&&_};
 ghost use Prim.Native.Nat.{_-_};
 ghost use lib.Dec.{eqb, leb};
-ghost use Rattle.reassembly.specs.Slots.{nodeOf, sameNode, present, sameKey, noKey, freeSlot, opened, isKey, isOf};
+ghost use Rattle.reassembly.specs.Slots.{nodeOf, sameNode, addressed, sourceOf, sameSource, present, sameKey, noKey, freeSlot, opened, isKey, isOf};
 use ieee802154::Address;
+use ieee802154::PanField;
 
 // An address as two numbers: its kind (0 absent, 1 short, 2 extended) and its value, 0 where it is absent.
 #[repr(C)]
@@ -13,10 +14,17 @@ pub struct Node {
     pub number: u64,
 }
 
+// Who sends: an address, and the number of its PAN, 0 where there is none.
+#[repr(C)]
+pub struct Source {
+    pub node: Node,
+    pub pan: u64,
+}
+
 // What tells one datagram's parts from another's.
 #[repr(C)]
 pub struct Key {
-    pub src: Node,
+    pub src: Source,
     pub dst: Node,
     pub size: u16,
     pub tag: u16,
@@ -60,9 +68,42 @@ impl Node {
     }
 
     pub fn is_present(self) -> bool
-        ensures { λ r. ⌜ r ≡ present self ⌝ }
+        ensures { λ r. ⌜ r ≡ addressed self ⌝ }
     {
         self.kind != 0
+    }
+}
+
+impl Source {
+    pub const NONE: Source = Source {
+        node: Node { kind: 0, number: 0 },
+        pan: 0,
+    };
+
+    pub fn of(a: Address, pan: PanField) -> Source
+        ensures { λ r. ⌜ r ≡ sourceOf a pan ⌝ }
+    {
+        let node = Node::of(a);
+        let pan = pan.number();
+        Source { node, pan }
+    }
+
+    pub fn same(self, b: Source) -> bool
+        ensures { λ r. ⌜ r ≡ sameSource self b ⌝ }
+    {
+        let node = self.node;
+        let other = b.node;
+        if node.same(other) {
+            return self.pan == b.pan;
+        }
+        false
+    }
+
+    pub fn is_present(self) -> bool
+        ensures { λ r. ⌜ r ≡ present self ⌝ }
+    {
+        let node = self.node;
+        node.is_present()
     }
 }
 
@@ -72,7 +113,10 @@ impl Key {
         ensures { λ r. ⌜ r ≡ noKey ⌝ }
     {
         Key {
-            src: Node { kind: 0, number: 0 },
+            src: Source {
+                node: Node { kind: 0, number: 0 },
+                pan: 0,
+            },
             dst: Node { kind: 0, number: 0 },
             size: 0,
             tag: 0,
@@ -137,7 +181,7 @@ impl Slot {
         false
     }
 
-    pub fn is_of(self, g: Node) -> bool
+    pub fn is_of(self, g: Source) -> bool
         ensures { λ r. ⌜ r ≡ isOf g self ⌝ }
     {
         if self.live == 1 {

@@ -11,30 +11,37 @@ ghost use Rattle.octets.specs.declared.refusal.Refusal.{Refusal};
 ghost use Rattle.reassembly.specs.declared.part.Outcome.{Outcome};
 ghost use Rattle.reassembly.specs.declared.table.Listed.{Listed};
 ghost use Rattle.reassembly.specs.Lists.{count, firstAt, those};
-ghost use Rattle.reassembly.specs.Slots.{sameNode, opened, expired, expire, freeSlot, isKey, present, isFree, gatesOf, isGate, held, free, idleOthers, opening};
+ghost use Rattle.reassembly.specs.Slots.{sameSource, opened, expired, expire, freeSlot, isKey, present, isFree, gatesOf, isGate, held, free, idleOthers, opening};
 ghost use Rattle.reassembly.specs.Parts.{partOf, place, offer, Placeable};
 ghost use Rattle.reassembly.specs.Table.{chunk, withSlots, step, takeAt, partCall, wholeCall, refusedCall, Lands, Gives};
-ghost use Rattle.reassembly.specs.Fresh.{seats, fresh, nodes, unfit, Begins};
+ghost use Rattle.reassembly.specs.Fresh.{seats, fresh, sources, unfit, Begins};
 use super::part::InSlot;
 use super::part::Outcome;
 use super::part::fits;
 use super::part::offer_part;
 use super::part::place_part;
 use super::slot::Key;
-use super::slot::Node;
 use super::slot::Slot;
+use super::slot::Source;
 use super::slot::is_expired;
 use expand::copy::put_part;
 use ieee802154::Address;
+use ieee802154::PanField;
 use octets::refusal::Refusal;
 use sixlowpan::frag::Units;
+
+// A gateway as it is listed: its address, and its PAN or none.
+pub struct Gateway {
+    pub addr: Address,
+    pub pan: PanField,
+}
 
 // The slots, the last time taken, and the gateways: a seat without one holds an absent address.
 #[repr(C)]
 pub struct Table {
     pub slots: [Slot; 8],
     pub last: u64,
-    pub gateways: [Node; 4],
+    pub gateways: [Source; 4],
 }
 
 // The answer of a call, and the table after it.
@@ -57,7 +64,7 @@ pub struct Fresh {
 
 impl Table {
     // A table at its beginning, of the first `count` of these gateways.
-    pub fn new(gateways: [Address; 4], count: usize) -> Fresh
+    pub fn new(gateways: [Gateway; 4], count: usize) -> Fresh
         ensures { λ r. ⌜ Begins (r .answer) (r .table) count gateways ⌝ }
     {
         if 4 < count {
@@ -123,7 +130,7 @@ impl Table {
         8
     }
 
-    fn of(seats: [Node; 4]) -> Table
+    fn of(seats: [Source; 4]) -> Table
         ensures { λ r. ⌜ r ≡ record { slots = replicate 8 freeSlot; last = 0; gateways = seats } ⌝ }
     {
         let s = Slot::free();
@@ -138,34 +145,36 @@ impl Table {
     fn refused() -> Fresh
         ensures { λ r. ⌜ (r .answer ≡ Listed.Refused Refusal.BadGateways) × (r .table ≡ fresh []) ⌝ }
     {
-        let n = Node::NONE;
+        let n = Source::NONE;
         let table = Table::of([n; 4]);
         let answer = Listed::Refused(Refusal::BadGateways);
         Fresh { answer, table }
     }
 }
 
-// The seats of the first `count` addresses.
-fn seat_all(gateways: [Address; 4], count: usize) -> [Node; 4]
+// The seats of the first `count` gateways.
+fn seat_all(gateways: [Gateway; 4], count: usize) -> [Source; 4]
     requires { ⌜ count ≤ 4 ⌝ }
-    ensures { λ r. ⌜ r ≡ seats (nodes count gateways) ⌝ }
+    ensures { λ r. ⌜ r ≡ seats (sources count gateways) ⌝ }
 {
-    let n = Node::NONE;
+    let n = Source::NONE;
     let mut all = [n; 4];
     let mut i: usize = 0;
     while i < count {
-        let a = gateways[i];
-        let g = Node::of(a);
-        all[i] = g;
+        let g = gateways[i];
+        let addr = g.addr;
+        let pan = g.pan;
+        let s = Source::of(addr, pan);
+        all[i] = s;
         i = i + 1;
     }
     all
 }
 
 // How many of the first `size` seats are g's.
-fn count_seats(seats: [Node; 4], size: usize, g: Node) -> usize
+fn count_seats(seats: [Source; 4], size: usize, g: Source) -> usize
     requires { ⌜ size ≤ 4 ⌝ }
-    ensures { λ r. ⌜ r ≡ count (sameNode g) (take size seats) ⌝ }
+    ensures { λ r. ⌜ r ≡ count (sameSource g) (take size seats) ⌝ }
 {
     let mut n: usize = 0;
     let mut i: usize = 0;
@@ -180,7 +189,7 @@ fn count_seats(seats: [Node; 4], size: usize, g: Node) -> usize
 }
 
 // Whether a seat's address is absent, or stands twice among the first `size`.
-fn is_unfit(seats: [Node; 4], size: usize, g: Node) -> bool
+fn is_unfit(seats: [Source; 4], size: usize, g: Source) -> bool
     requires { ⌜ size ≤ 4 ⌝ }
     ensures { λ r. ⌜ r ≡ unfit (take size seats) g ⌝ }
 {
@@ -190,7 +199,7 @@ fn is_unfit(seats: [Node; 4], size: usize, g: Node) -> bool
     true
 }
 
-fn has_unfit(seats: [Node; 4], size: usize) -> bool
+fn has_unfit(seats: [Source; 4], size: usize) -> bool
     requires { ⌜ size ≤ 4 ⌝ }
     ensures { λ r. ⌜ r ≡ leb 1 (count (unfit (take size seats)) (take size seats)) ⌝ }
 {
@@ -216,7 +225,7 @@ pub fn is_short(mem: usize, out: usize) -> bool
 }
 
 // Whether an address is one of the gateways.
-pub fn is_gateway(gateways: [Node; 4], a: Node) -> bool
+pub fn is_gateway(gateways: [Source; 4], a: Source) -> bool
     ensures { λ r. ⌜ r ≡ isGate a (those present gateways) ⌝ }
 {
     let mut i: usize = 0;
@@ -230,8 +239,8 @@ pub fn is_gateway(gateways: [Node; 4], a: Node) -> bool
     false
 }
 
-fn is_seat_of(g: Node, a: Node) -> bool
-    ensures { λ r. ⌜ r ≡ (present g && sameNode a g) ⌝ }
+fn is_seat_of(g: Source, a: Source) -> bool
+    ensures { λ r. ⌜ r ≡ (present g && sameSource a g) ⌝ }
 {
     if g.is_present() {
         return a.same(g);
@@ -269,7 +278,7 @@ pub fn count_free(t: Table) -> usize
 }
 
 // How many slots a gateway holds.
-pub fn count_held(t: Table, g: Node) -> usize
+pub fn count_held(t: Table, g: Source) -> usize
     ensures { λ r. ⌜ r ≡ held g (t .slots) ⌝ }
 {
     let mut n: usize = 0;
@@ -285,8 +294,8 @@ pub fn count_held(t: Table, g: Node) -> usize
 }
 
 // Whether a seat is that of another gateway than g that holds no slot.
-fn is_idle_other(t: Table, h: Node, g: Node) -> bool
-    ensures { λ r. ⌜ r ≡ (present h && (not (sameNode h g) && eqb (held h (t .slots)) 0)) ⌝ }
+fn is_idle_other(t: Table, h: Source, g: Source) -> bool
+    ensures { λ r. ⌜ r ≡ (present h && (not (sameSource h g) && eqb (held h (t .slots)) 0)) ⌝ }
 {
     if h.is_present() {
         if h.same(g) {
@@ -297,7 +306,7 @@ fn is_idle_other(t: Table, h: Node, g: Node) -> bool
     false
 }
 
-fn count_idle_others(t: Table, g: Node) -> usize
+fn count_idle_others(t: Table, g: Source) -> usize
     ensures { λ r. ⌜ r ≡ idleOthers g (gatesOf t) (t .slots) ⌝ }
 {
     let mut n: usize = 0;
@@ -313,7 +322,7 @@ fn count_idle_others(t: Table, g: Node) -> usize
 }
 
 // The slot that a gateway may open, or 8.
-pub fn to_open(t: Table, g: Node) -> usize
+pub fn to_open(t: Table, g: Source) -> usize
     ensures { λ r. ⌜ r ≡ opening g (gatesOf t) (t .slots) ⌝ }
 {
     let h = count_held(t, g);

@@ -12,16 +12,16 @@ use Rattle.incoming.specs.Incoming as Incoming
 use Rattle.incoming.specs.declared.arrival.Arrival.{Arrival}
 use Rattle.incoming.proofs.Names.{Headed, part-header}
 use Rattle.incoming.proofs.Sized.{SizedBrought, payload-sized}
-use Rattle.reassembly.specs.Slots.{nodeOf, present, owner, isGate}
+use Rattle.reassembly.specs.Slots.{nodeOf, addressed, owner, isGate}
 use Rattle.reassembly.specs.Parts.{Part}
 use Rattle.reassembly.specs.Table.{Call, short, other, part, lentCall, step, At, after}
 use Rattle.reassembly.specs.declared.table.Table.{Table}
-use Rattle.reassembly.specs.declared.slot.Node.{Node}
+use Rattle.reassembly.specs.declared.slot.Source.{Source}
 use Rattle.reassembly.specs.declared.slot.Key.{Key}
 use Rattle.reassembly.proofs.Tests.{by-test}
 use Rattle.reassembly.proofs.Lent.{not-other, lent-after, lent-part, lent-length}
 use Rattle.reassembly.proofs.Sized.{Sized, SizedCall, lent-sized}
-use Rattle.receiver.specs.Receive.{keyOf, welcome, admitted, brings, carries, frameCall, callOf}
+use Rattle.receiver.specs.Receive.{senderOf, keyOf, welcome, admitted, brings, carries, frameCall, callOf}
 use Rattle.receiver.specs.Names.{named}
 
 -- ---- a part that a call brings, and its time
@@ -39,7 +39,7 @@ keyIn k (part t p) = p .key
 -- ---- a frame that brings a part
 
 -- the part p, at the time t, from the frame s
-pub record Comes (gs : List Node) (t : ℕ) (s : List ℕ) (u : ℕ) (p : Part) : Type 0 where
+pub record Comes (gs : List Source) (t : ℕ) (s : List ℕ) (u : ℕ) (p : Part) : Type 0 where
   pub time : u ≡ t
   pub name : named s ≡ is (p .key)
   pub gate : isGate (owner (p .key)) gs ≡ true
@@ -48,12 +48,12 @@ named-is : (s : List ℕ) (a : Arrival) (size tag : ℕ) → arrival s ≡ is a 
 unfolding named
 named-is s a size tag e H = rw (e, H .header) (ap₂ (λ (x y : ℕ). is (keyOf a x y)) (H .size-is) (H .tag-is))
 
-key-gate : (gs : List Node) (a : Arrival) (size tag : ℕ) → isGate (nodeOf (a .src)) gs ≡ true → isGate (owner (keyOf a size tag)) gs ≡ true
+key-gate : (gs : List Source) (a : Arrival) (size tag : ℕ) → isGate (senderOf a) gs ≡ true → isGate (owner (keyOf a size tag)) gs ≡ true
 unfolding keyOf
 key-gate gs a size tag g = g
 
-module _ (gs : List Node) (ctx : List ℕ) (t : ℕ) (s : List ℕ) (u : ℕ) (p : Part) where
-  brings-part : (a : Arrival) → arrival s ≡ is a → isGate (nodeOf (a .src)) gs ≡ true → brings t a (payload ctx a s) ≡ part u p → Comes gs t s u p
+module _ (gs : List Source) (ctx : List ℕ) (t : ℕ) (s : List ℕ) (u : ℕ) (p : Part) where
+  brings-part : (a : Arrival) → arrival s ≡ is a → isGate (senderOf a) gs ≡ true → brings t a (payload ctx a s) ≡ part u p → Comes gs t s u p
   brings-part a q g e = go (payload ctx a s) refl e
     where
       go : (r : Answer Brought) → payload ctx a s ≡ r → brings t a r ≡ part u p → Comes gs t s u p
@@ -72,8 +72,8 @@ module _ (gs : List Node) (ctx : List ℕ) (t : ℕ) (s : List ℕ) (u : ℕ) (p
   frame-part e = go (arrival s) refl e
     where
       go : (r : Answer Arrival) → arrival s ≡ r → carries t ctx s (andThen r (λ a. welcome gs a)) ≡ part u p → Comes gs t s u p
-      go (is a) q e = by-test (isGate (nodeOf (a .src)) gs)
-          (λ g. by-test (present (nodeOf (a .dst)))
+      go (is a) q e = by-test (isGate (senderOf a) gs)
+          (λ g. by-test (addressed (nodeOf (a .dst)))
           (λ y. brings-part a q g (rw (g, y) at e))
           (λ y. not-other t u _ p (rw (g, y) at e)))
           (λ g. not-other t u _ p (rw g at e))
@@ -90,15 +90,15 @@ carries-after n t ctx s (is a) = go (payload ctx a s)
     go (refused r) = refl
 carries-after n t ctx s (refused r) = refl
 
-frame-after : (n : ℕ) (gs : List Node) (ctx : List ℕ) (t : ℕ) (s : List ℕ) → after n (frameCall gs ctx t s) ≡ t
+frame-after : (n : ℕ) (gs : List Source) (ctx : List ℕ) (t : ℕ) (s : List ℕ) → after n (frameCall gs ctx t s) ≡ t
 unfolding frameCall
 frame-after n gs ctx t s = carries-after n t ctx s (admitted gs s)
 
-pub call-of : (m o : List ℕ) (gs : List Node) (ctx : List ℕ) (t : ℕ) (s : List ℕ) → lentCall m o (frameCall gs ctx t s) ≡ callOf m o gs ctx t s
+pub call-of : (m o : List ℕ) (gs : List Source) (ctx : List ℕ) (t : ℕ) (s : List ℕ) → lentCall m o (frameCall gs ctx t s) ≡ callOf m o gs ctx t s
 unfolding callOf
 call-of m o gs ctx t s = refl
 
-pub frame-at : (gs : List Node) (ctx : List ℕ) (t : ℕ) (s : List ℕ) → At (frameCall gs ctx t s) t
+pub frame-at : (gs : List Source) (ctx : List ℕ) (t : ℕ) (s : List ℕ) → At (frameCall gs ctx t s) t
 unfolding frameCall
 frame-at gs ctx t s = go (admitted gs s)
   where
@@ -113,7 +113,7 @@ frame-at gs ctx t s = go (admitted gs s)
 
 -- ---- with the lent memory m and the output o
 
-module _ (m o : List ℕ) (gs : List Node) (ctx : List ℕ) (t : ℕ) (s : List ℕ) where
+module _ (m o : List ℕ) (gs : List Source) (ctx : List ℕ) (t : ℕ) (s : List ℕ) where
   -- a call that is refused 7 takes no time; every other takes its own
   pub call-after : (n : ℕ) → (after n (callOf m o gs ctx t s) ≡ n) ⊎ (after n (callOf m o gs ctx t s) ≡ t)
   unfolding callOf
@@ -143,7 +143,7 @@ brings-sized t a (is (datagram d)) h = (h .0, omega (arith, h .1))
 brings-sized t a (is (Incoming.part size tag v bs el)) h = tt
 brings-sized t a (refused r) h = tt
 
-frame-sized : (gs : List Node) (ctx : List ℕ) (t : ℕ) (s : List ℕ) → SizedCall (frameCall gs ctx t s)
+frame-sized : (gs : List Source) (ctx : List ℕ) (t : ℕ) (s : List ℕ) → SizedCall (frameCall gs ctx t s)
 unfolding frameCall
 frame-sized gs ctx t s = go (admitted gs s)
   where
@@ -151,6 +151,6 @@ frame-sized gs ctx t s = go (admitted gs s)
     go (is a) = brings-sized t a (payload ctx a s) (payload-sized ctx a s)
     go (refused r) = tt
 
-pub call-sized : (tb : Table) (m o : List ℕ) (gs : List Node) (ctx : List ℕ) (t : ℕ) (s : List ℕ) → length (tb .slots) ≡ 8 → Sized (step (record { table = tb; mem = m }) (callOf m o gs ctx t s) .reply)
+pub call-sized : (tb : Table) (m o : List ℕ) (gs : List Source) (ctx : List ℕ) (t : ℕ) (s : List ℕ) → length (tb .slots) ≡ 8 → Sized (step (record { table = tb; mem = m }) (callOf m o gs ctx t s) .reply)
 unfolding callOf
 call-sized tb m o gs ctx t s eight = lent-sized tb m o (frameCall gs ctx t s) eight (frame-sized gs ctx t s)

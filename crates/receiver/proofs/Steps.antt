@@ -21,33 +21,33 @@ use Rattle.incoming.specs.declared.arrival.ArrivalAnswer.{ArrivalAnswer}
 use Rattle.incoming.specs.declared.payload.Payload.{Payload}
 use Rattle.incoming.proofs.Steps.{on-arrival, no-arrival, arrival-short, in-room}
 use Rattle.sixlowpan.specs.declared.frag.Units.{Units}
-use Rattle.reassembly.specs.Slots.{nodeOf, present, isGate}
+use Rattle.reassembly.specs.Slots.{nodeOf, addressed, isGate}
 use Rattle.reassembly.specs.Parts as Parts
 use Rattle.reassembly.specs.Parts.{partOf}
 use Rattle.reassembly.specs.Table as Table
 use Rattle.reassembly.specs.Table.{Call, other, step, lentCall, Gives}
 use Rattle.reassembly.specs.declared.table.Table as T
 use Rattle.reassembly.specs.declared.table.Received.{Received}
-use Rattle.reassembly.specs.declared.slot.Node.{Node}
+use Rattle.reassembly.specs.declared.slot.Source.{Source}
 use Rattle.reassembly.specs.declared.slot.Key.{Key}
-use Rattle.receiver.specs.Receive.{keyOf, welcome, admitted, brings, carries, frameCall}
+use Rattle.receiver.specs.Receive.{senderOf, keyOf, welcome, admitted, brings, carries, frameCall}
 use Rattle.receiver.specs.Carried.{nothing, whole, part, callAs, carriedCall, zeros, Carries}
 use Rattle.receiver.specs.declared.What.{What}
 use Rattle.receiver.specs.declared.Carried.{Carried}
 
 -- ---- who sends it to whom
-module _ (gs : List Node) (s : List ℕ) (y : ArrivalAnswer) (p : ofArrival y ≡ arrival s) where
+module _ (gs : List Source) (s : List ℕ) (y : ArrivalAnswer) (p : ofArrival y ≡ arrival s) where
   module _ (a : Arrival) (q : y ≡ ArrivalAnswer.Is a) where
-    pub not-known : isGate (nodeOf (a .src)) gs ≡ false → refused (numberOf NotGateway) ≡ admitted gs s
+    pub not-known : isGate (senderOf a) gs ≡ false → refused (numberOf NotGateway) ≡ admitted gs s
     unfolding admitted welcome
     not-known e = on-arrival (arrival s) (λ x. welcome gs x) p q (rw e refl)
 
-    module _ (known : isGate (nodeOf (a .src)) gs ≡ true) where
-      pub not-addressed : present (nodeOf (a .dst)) ≡ false → refused (numberOf NoAddress) ≡ admitted gs s
+    module _ (known : isGate (senderOf a) gs ≡ true) where
+      pub not-addressed : addressed (nodeOf (a .dst)) ≡ false → refused (numberOf NoAddress) ≡ admitted gs s
       unfolding admitted welcome
       not-addressed e = on-arrival (arrival s) (λ x. welcome gs x) p q (rw (known, e) refl)
 
-      pub let-in : present (nodeOf (a .dst)) ≡ true → is a ≡ admitted gs s
+      pub let-in : addressed (nodeOf (a .dst)) ≡ true → is a ≡ admitted gs s
       unfolding admitted welcome
       let-in e = on-arrival (arrival s) (λ x. welcome gs x) p q (rw (known, e) refl)
 
@@ -56,7 +56,7 @@ module _ (gs : List Node) (s : List ℕ) (y : ArrivalAnswer) (p : ofArrival y �
   no-sender e q = no-arrival (arrival s) (λ x. welcome gs x) p q
 
 -- ---- what it brings
-admitted-short : (gs : List Node) (s : List ℕ) (a : Arrival) → admitted gs s ≡ is a → length s ≤ 127
+admitted-short : (gs : List Source) (s : List ℕ) (a : Arrival) → admitted gs s ≡ is a → length s ≤ 127
 unfolding admitted
 admitted-short gs s a e = go (arrival s) refl e
   where
@@ -73,7 +73,7 @@ put-later s l l′ from short room-for w =
     let f : l′ ≡ drop from s ++ drop (length (drop from s)) l = w ∙ ap (λ z. put 0 z l) (take-all (length s - from) (drop from s) (omega (arith, n))) ∙ put-front (drop from s) l h in
     (ap (take (length s - from)) f ∙ take-at (drop from s) (drop (length (drop from s)) l) (length s - from) n, rw (le-leb (length (drop from s)) (length l) h) f)
 
-module _ (gs : List Node) (ctx s : List ℕ) (y : ArrivalAnswer) (p : ofArrival y ≡ admitted gs s) where
+module _ (gs : List Source) (ctx s : List ℕ) (y : ArrivalAnswer) (p : ofArrival y ≡ admitted gs s) where
   frame-none : (e : Refusal) → y ≡ ArrivalAnswer.Refused e → (t : ℕ) → other t (Parts.refused (numberOf e)) ≡ frameCall gs ctx t s
   unfolding frameCall
   frame-none e q t = ap (λ z. carries t ctx s z) (sym (ap ofArrival q) ∙ p)
@@ -102,7 +102,7 @@ module _ (gs : List Node) (ctx s : List ℕ) (y : ArrivalAnswer) (p : ofArrival 
           ap₂ (λ x z. Table.part t (partOf x (u .0) false z)) key g ∙ frame-brings (rw e at (b .answer))
 
 -- ---- and by value, in full
-module _ (gs : List Node) (ctx s : List ℕ) (y : ArrivalAnswer) (p : ofArrival y ≡ admitted gs s) where
+module _ (gs : List Source) (ctx s : List ℕ) (y : ArrivalAnswer) (p : ofArrival y ≡ admitted gs s) where
   pub carries-none : (e : Refusal) → y ≡ ArrivalAnswer.Refused e → Carries (nothing e zeros) gs ctx s
   carries-none e q = record { call = λ t. frame-none gs ctx s y p e q t; bare = (refl, refl, refl, refl); len = refl; bytes = refl }
 

@@ -14,12 +14,12 @@ use Rattle.reassembly.specs.Parts.{Part}
 use Rattle.reassembly.specs.Table as Table
 use Rattle.reassembly.specs.Table.{other}
 use Rattle.reassembly.proofs.Lent.{not-other}
-use Rattle.reassembly.specs.declared.slot.Node.{Node}
+use Rattle.reassembly.specs.declared.slot.Source.{Source}
 use Rattle.receiver.specs.Carried.{bytesOf, partIn, callAs, Bare, zeros, Carries}
 use Rattle.receiver.specs.declared.What.{What}
 use Rattle.receiver.specs.declared.Carried.{Carried}
 
-module _ (gs : List Node) (ctx s : List ℕ) (c d : Carried) (A : Carries c gs ctx s) (B : Carries d gs ctx s) where
+module _ (gs : List Source) (ctx s : List ℕ) (c d : Carried) (A : Carries c gs ctx s) (B : Carries d gs ctx s) where
   -- what stands by itself, and the rest by the bytes
   whole-one : c .what ≡ d .what → c .key ≡ d .key → c .offset .0 ≡ d .offset .0 → c .elided ≡ d .elided → bytesOf c ≡ bytesOf d → c ≡ d
   whole-one w k u e x =

@@ -14,7 +14,7 @@ use Rattle.reassembly.specs.Parts as Parts
 use Rattle.reassembly.specs.Parts.{Part, partOf}
 use Rattle.reassembly.specs.Table as Table
 use Rattle.reassembly.specs.Table.{Call, other}
-use Rattle.reassembly.specs.declared.slot.Node.{Node}
+use Rattle.reassembly.specs.declared.slot.Source.{Source}
 use Rattle.reassembly.specs.declared.slot.Key.{Key}
 use Rattle.receiver.specs.Receive.{frameCall}
 use Rattle.receiver.specs.declared.What.{What}
@@ -56,7 +56,7 @@ abbrev pub zeros : List ℕ
 zeros = replicate 176 0
 
 -- c is what the frame s carries to a table of the gateways gs, with the contexts ctx: the call that it makes; the bytes, and zeros behind them
-pub record Carries (c : Carried) (gs : List Node) (ctx s : List ℕ) : Type 0 where
+pub record Carries (c : Carried) (gs : List Source) (ctx s : List ℕ) : Type 0 where
   pub call : (t : ℕ) → carriedCall t c ≡ frameCall gs ctx t s
   pub bare : Bare (c .what) c
   pub len : c .len ≡ length (bytesOf c)

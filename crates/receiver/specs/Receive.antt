@@ -5,24 +5,28 @@ use mathlib.Core.List.{List}
 use Rattle.octets.specs.Read.{Answer, is, refused, andThen, choose}
 use Rattle.incoming.specs.Incoming.{arrival, Brought, datagram, part, payload}
 use Rattle.incoming.specs.declared.arrival.Arrival.{Arrival}
-use Rattle.reassembly.specs.Slots.{nodeOf, present, isGate}
+use Rattle.reassembly.specs.Slots.{nodeOf, addressed, sourceOf, isGate}
 use Rattle.reassembly.specs.Parts as Parts
 use Rattle.reassembly.specs.Parts.{partOf}
 use Rattle.reassembly.specs.Table as Table
 use Rattle.reassembly.specs.Table.{Call, other, lentCall}
-use Rattle.reassembly.specs.declared.slot.Node.{Node}
+use Rattle.reassembly.specs.declared.slot.Source.{Source}
 use Rattle.reassembly.specs.declared.slot.Key.{Key}
 
--- the key is source, destination, size, tag
-unfoldable pub keyOf : Arrival → ℕ → ℕ → Key
-keyOf a size tag = record { src = nodeOf (a .src); dst = nodeOf (a .dst); size = size; tag = tag }
+-- who sends: the source with its PAN
+abbrev pub senderOf : Arrival → Source
+senderOf a = sourceOf (a .src) (a .pan)
 
--- 9: the source is not one of the gateways gs; 6: the destination is absent
-unfoldable pub welcome : List Node → Arrival → Answer Arrival
-welcome gs a = choose (isGate (nodeOf (a .src)) gs) (choose (present (nodeOf (a .dst))) (is a) (refused 6)) (refused 9)
+-- the key is source with PAN, destination, size, tag
+unfoldable pub keyOf : Arrival → ℕ → ℕ → Key
+keyOf a size tag = record { src = senderOf a; dst = nodeOf (a .dst); size = size; tag = tag }
+
+-- 9: the sender is not one of the gateways gs; 6: the destination is absent
+unfoldable pub welcome : List Source → Arrival → Answer Arrival
+welcome gs a = choose (isGate (senderOf a) gs) (choose (addressed (nodeOf (a .dst))) (is a) (refused 6)) (refused 9)
 
 -- who sends the frame to whom: the MAC header's refusals and 13, then 9 and 6
-unfoldable pub admitted : List Node → List ℕ → Answer Arrival
+unfoldable pub admitted : List Source → List ℕ → Answer Arrival
 admitted gs s = andThen (arrival s) (λ a. welcome gs a)
 
 -- what its payload is to the table, at the time t: a datagram to hand out, a part under its key, or a refusal
@@ -36,9 +40,9 @@ carries t ctx s (is a) = brings t a (payload ctx a s)
 carries t ctx s (refused n) = other t (Parts.refused n)
 
 -- the frame s at the time t, to a table of the gateways gs
-unfoldable pub frameCall : List Node → List ℕ → ℕ → List ℕ → Call
+unfoldable pub frameCall : List Source → List ℕ → ℕ → List ℕ → Call
 frameCall gs ctx t s = carries t ctx s (admitted gs s)
 
 -- with the lent memory m and the output o
-unfoldable pub callOf : List ℕ → List ℕ → List Node → List ℕ → ℕ → List ℕ → Call
+unfoldable pub callOf : List ℕ → List ℕ → List Source → List ℕ → ℕ → List ℕ → Call
 callOf m o gs ctx t s = lentCall m o (frameCall gs ctx t s)

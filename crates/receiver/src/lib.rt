@@ -9,7 +9,7 @@ ghost use Rattle.incoming.specs.Incoming.{ofArrival};
 ghost use Rattle.reassembly.specs.Lists.{those};
 ghost use Rattle.reassembly.specs.Slots.{present, gatesOf};
 ghost use Rattle.reassembly.specs.Table.{step, lentCall, Gives};
-ghost use Rattle.receiver.specs.Receive.{keyOf, admitted, callOf};
+ghost use Rattle.receiver.specs.Receive.{senderOf, keyOf, admitted, callOf};
 ghost use Rattle.receiver.specs.Carried.{carriedCall, Carries, nothing, whole, part};
 use expand::copy::put_part;
 use incoming::Arrival;
@@ -19,6 +19,7 @@ use octets::refusal::Refusal;
 use reassembly::Key;
 use reassembly::Node;
 use reassembly::Received;
+use reassembly::Source;
 use reassembly::Table;
 use reassembly::hand_over;
 use reassembly::is_gateway;
@@ -43,15 +44,22 @@ pub struct Carried {
     pub bytes: [u8; 176],
 }
 
+fn sender_of(a: Arrival) -> Source
+    ensures { λ r. ⌜ r ≡ senderOf a ⌝ }
+{
+    let addr = a.src;
+    let pan = a.pan;
+    Source::of(addr, pan)
+}
+
 // Who sends a frame to whom, where the sender is a gateway and the destination is present.
-fn admit(gateways: [Node; 4], frame: &[u8]) -> ArrivalAnswer
+fn admit(gateways: [Source; 4], frame: &[u8]) -> ArrivalAnswer
     ensures { λ r. ⌜ ofArrival r ≡ admitted (those present gateways) (now (frame .entry)) ⌝ }
 {
     match Arrival::read(frame) {
         ArrivalAnswer::Is(a) => {
-            let src = a.src;
             let dst = a.dst;
-            if !is_gateway(gateways, Node::of(src)) {
+            if !is_gateway(gateways, sender_of(a)) {
                 return ArrivalAnswer::Refused(Refusal::NotGateway);
             }
             let to = Node::of(dst);
@@ -67,9 +75,8 @@ fn admit(gateways: [Node; 4], frame: &[u8]) -> ArrivalAnswer
 fn key_of(a: Arrival, size: u16, tag: u16) -> Key
     ensures { λ r. ⌜ r ≡ keyOf a size tag ⌝ }
 {
-    let from = a.src;
     let to = a.dst;
-    let src = Node::of(from);
+    let src = sender_of(a);
     let dst = Node::of(to);
     Key {
         src,
@@ -122,7 +129,7 @@ impl Carried {
     }
 
     // What a frame carries to a table of these gateways.
-    pub fn read(gateways: [Node; 4], frame: &[u8], contexts: &[u8]) -> Carried
+    pub fn read(gateways: [Source; 4], frame: &[u8], contexts: &[u8]) -> Carried
         ensures { λ r. ⌜ Carries r (those present gateways) (now (contexts .entry)) (now (frame .entry)) ⌝ }
     {
         let mut bytes = [0u8; 176];

@@ -3,17 +3,17 @@ use borrow.Author.Needs.{needs}
 use Rattle.lift.proofs.begin.Statement.{statement}
 use Rattle.lift.proofs.begin.Tie as tie
 
-address-at-requires : tie.Need-address-at-requires
-address-at-requires c κs = search needs
+gateway-at-requires : tie.Need-gateway-at-requires
+gateway-at-requires c κs = search needs
 
-address-at-requires-2 : tie.Need-address-at-requires-2
-address-at-requires-2 c κs = search needs
+gateway-at-requires-2 : tie.Need-gateway-at-requires-2
+gateway-at-requires-2 c κs = search needs
 
-address-at-requires-3 : tie.Need-address-at-requires-3
-address-at-requires-3 c κs = search needs
+gateway-at-requires-3 : tie.Need-gateway-at-requires-3
+gateway-at-requires-3 c κs = search needs
 
-address-at-requires-4 : tie.Need-address-at-requires-4
-address-at-requires-4 c κs = search needs
+gateway-at-requires-4 : tie.Need-gateway-at-requires-4
+gateway-at-requires-4 c κs = search needs
 
 add-count : tie.Need-add-count
 add-count c = search needs
@@ -36,21 +36,21 @@ cast-t18 c = search needs
 returns : tie.Need-returns
 returns c =
     let l = c .before .before .before .before .before .before .before .before .before .args .gateways .now in
-    begun-list l _ _ (four-is _ _ _ _ _ (c .before .before .before .before .before .before .before .address-at .ensures) (c .before .before .before .before .before .before .address-at2 .ensures) (c .before .before .before .before .before .address-at3 .ensures) (c .before .before .before .before .address-at4 .ensures)) (how-many l) _ _ (c .before .before .before .new .ensures) (c .enum-told .given .1)
+    begun-list l _ _ (four-is _ _ _ _ _ (c .before .before .before .before .before .before .before .gateway-at .ensures) (c .before .before .before .before .before .before .gateway-at2 .ensures) (c .before .before .before .before .before .gateway-at3 .ensures) (c .before .before .before .before .gateway-at4 .ensures)) (how-many l) _ _ (c .before .before .before .new .ensures) (c .enum-told .given .1)
 
 returns-2 : tie.Need-returns-2
 returns-2 c =
     let l = c .before .before .before .before .before .before .before .before .before .before .before .args .gateways .now in
-    refused-list l _ _ (four-is _ _ _ _ _ (c .before .before .before .before .before .before .before .before .before .address-at .ensures) (c .before .before .before .before .before .before .before .before .address-at2 .ensures) (c .before .before .before .before .before .before .before .address-at3 .ensures) (c .before .before .before .before .before .before .address-at4 .ensures)) (how-many l) _ _ (c .before .before .before .before .before .new .ensures) _ (c .before .before .listed .given .1) _ (c .number .ensures)
+    refused-list l _ _ (four-is _ _ _ _ _ (c .before .before .before .before .before .before .before .before .before .gateway-at .ensures) (c .before .before .before .before .before .before .before .before .gateway-at2 .ensures) (c .before .before .before .before .before .before .before .gateway-at3 .ensures) (c .before .before .before .before .before .before .gateway-at4 .ensures)) (how-many l) _ _ (c .before .before .before .before .before .new .ensures) _ (c .before .before .listed .given .1) _ (c .number .ensures)
 
 pub begin-spec : {M : Type 1} → statement M
 begin-spec =
     tie.close
     (tie.spec
-    address-at-requires
-    address-at-requires-2
-    address-at-requires-3
-    address-at-requires-4
+    gateway-at-requires
+    gateway-at-requires-2
+    gateway-at-requires-3
+    gateway-at-requires-4
     add-count
     new-requires
     enum-told

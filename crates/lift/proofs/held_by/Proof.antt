@@ -2,8 +2,8 @@ use borrow.Author.Needs.{needs}
 use Rattle.lift.proofs.held_by.Statement.{statement}
 use Rattle.lift.proofs.held_by.Tie as tie
 
-address-of-requires : tie.Need-address-of-requires
-address-of-requires c κs = search needs
+gateway-of-requires : tie.Need-gateway-of-requires
+gateway-of-requires c κs = search needs
 
 of-requires : tie.Need-of-requires
 of-requires c κs = search needs
@@ -12,7 +12,7 @@ count-held-requires : tie.Need-count-held-requires
 count-held-requires c κs = search needs
 
 returns : tie.Need-returns
-returns c = rw (c .before .before .address-of .ensures) at (rw (c .before .of .ensures) at (c .count-held .ensures))
+returns c = rw (c .before .before .gateway-of .ensures) at (rw (c .before .of .ensures) at (c .count-held .ensures))
 
 pub held-by-spec : {M : Type 1} → statement M
-held-by-spec = tie.close (tie.spec address-of-requires of-requires count-held-requires returns)
+held-by-spec = tie.close (tie.spec gateway-of-requires of-requires count-held-requires returns)

@@ -35,8 +35,9 @@ use denote.Triple.Table.{entered, cited}
 use denote.Triple.Walked.{says, Stays, stay-none, stay-none-ref, walkOf, AllGo, goes-none, goes-none-ref, Walks, ends-at, walked, walk-meets}
 use denote.Triple.Clauses.{ensured, lasts}
 use denote.Exit.{yes}
-use Rattle.reassembly.specs.Slots.{nodeOf, held}
-use Rattle.lift.specs.Face.{addressOf}
+use Rattle.reassembly.specs.Slots.{held}
+use Rattle.reassembly.specs.Fresh.{gateOf}
+use Rattle.lift.specs.Face.{gatewayOf}
 use Rattle.reassembly.specs.declared.table.Table.{Table}
 use Rattle.reassembly.proofs.table.Table as T
 use Rattle.reassembly.proofs.table.Table.Laws as T′
@@ -54,7 +55,7 @@ abbrev low : Table → List Val
 low d = T′.lowered d ∷ []
 
 abbrev Said : Table → ℕ → ℕ → ℕ → Type 0
-Said h kind number r = r ≡ held (nodeOf (addressOf kind number)) (h .slots)
+Said h kind number r = r ≡ held (gateOf (gatewayOf kind number)) (h .slots)
 
 abbrev stayed : Stays (f.ended .signature .params) (f.ended .kept)
 stayed = (stay-none-ref (0 ∷ []) tt (plain (λ _. T.the-row)) yes, (stay-none (λ _. u64) yes, (stay-none (λ _. u64) yes, tt)))

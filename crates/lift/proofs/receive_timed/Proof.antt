@@ -50,10 +50,10 @@ use denote.Triple.Clauses.{ensured, lasts, Lasts}
 use denote.Exit.{yes}
 use Rattle.reassembly.specs.Lists.{those}
 use Rattle.reassembly.specs.Slots.{present}
-use Rattle.reassembly.specs.declared.slot.Node.{Node}
+use Rattle.reassembly.specs.declared.slot.Source.{Source}
 use Rattle.reassembly.specs.declared.table.Table.{Table}
-use Rattle.reassembly.proofs.slot.Node as N
-use Rattle.reassembly.proofs.slot.Node.Laws as N′
+use Rattle.reassembly.proofs.slot.Source as N
+use Rattle.reassembly.proofs.slot.Source.Laws as N′
 use Rattle.reassembly.proofs.table.Table as T
 use Rattle.reassembly.proofs.table.Table.Laws as T′
 use Rattle.receiver.specs.Carried.{Carries}
@@ -88,17 +88,17 @@ use Rattle.lift.proofs.receive_timed.Code.Mir as mirs
 abbrev low : Table → List Val
 low d = T′.lowered d ∷ []
 
-abbrev gv : List Node → Val
+abbrev gv : List Source → Val
 gv gs = arrayVal (map N′.lowered gs)
 
 -- a field that is an array of structs is the array of the author's records
-each-record : (gs : List Node) (us : List Val) → shadow (each (N.the-field .row .Denot) (N.the-field .row .own) (map (N.the-field .into) gs) us) → shadow (each Node (N.the-row .own) gs us)
+each-record : (gs : List Source) (us : List Val) → shadow (each (N.the-field .row .Denot) (N.the-field .row .own) (map (N.the-field .into) gs) us) → shadow (each Source (N.the-row .own) gs us)
 each-record [] [] s = s
 each-record [] (u ∷ us) s = s
 each-record (g ∷ gs) [] s = s
 each-record (g ∷ gs) (u ∷ us) s = (s .0, each-record gs us (s .1))
 
-records : (gs : List Node) (vs : List Val) → Is (Array (N.the-field .row) 4) (map (N.the-field .into) gs) vs → Is (Array N.the-row 4) gs vs
+records : (gs : List Source) (vs : List Val) → Is (Array (N.the-field .row) 4) (map (N.the-field .into) gs) vs → Is (Array N.the-row 4) gs vs
 records gs vs p = (p .0, ((p .1 .0 .0, sym (length-map gs (N.the-field .into)) ∙ p .1 .0 .1), each-record gs (p .0) (p .1 .1)))
 
 -- what a table says of its gateways
@@ -132,7 +132,7 @@ module _ {M : Type 1} (𝓤 : URA M) (H : Heap 𝓤) (A : Atoms 𝓤) (at-mem : 
   Answer = tripleOf 𝓤 H A answer.signature (answer.spec 𝓤 H A at-mem run)
 
   -- of what the two that are called on values ensure, the clause alone
-  read-says : (κ₁ κ₂ : Lft) (gs : List Node) (fr cx : RefT (List ℕ)) (c : Carried)
+  read-says : (κ₁ κ₂ : Lft) (gs : List Source) (fr cx : RefT (List ℕ)) (c : Carried)
       → ent 𝓤 (ensured 𝓤 H A read.ended (read.clauses 𝓤 H A at-mem run) (κ₁, (κ₂, tt)) (gs, (fr, (cx, tt))) tt c) (fact 𝓤 (Carries c (those present gs) (cx .now) (fr .now)))
   read-says κ₁ κ₂ gs fr cx c = exE 𝓤 _ (λ ws. snd∗ 𝓤 (sem 𝓤 H A (lasts read.ended (κ₁, (κ₂, tt)) (gs, (fr, (cx, tt))) ws)) (fact 𝓤 (Carries c (those present gs) (cx .now) (fr .now))))
 

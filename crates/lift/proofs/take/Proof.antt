@@ -63,7 +63,7 @@ use Rattle.reassembly.proofs.table.Table as T
 use Rattle.reassembly.proofs.table.Table.Laws as T′
 use Rattle.reassembly.proofs.slot.Slot as S
 use Rattle.reassembly.proofs.slot.Slot.Laws as S′
-use Rattle.reassembly.proofs.slot.Node.Laws as N′
+use Rattle.reassembly.proofs.slot.Source.Laws as N′
 use Rattle.receiver.proofs.Carried as Cd
 use Rattle.receiver.proofs.Carried.Laws as Cd′
 use Rattle.lift.proofs.Put as P
@@ -156,7 +156,7 @@ by-key : (h : Table) (c : Carried) (i : ℕ) → i ≡ found h c → Holds (not 
 by-key h c i e t = e ∙ slot-is h c false (ap (λ m. eqb m 8) (sym e) ∙ is-false (eqb i 8) t)
 
 -- the place of slot i fits
-scaled : (i : ℕ) → i < 8 → i * 128 < 2 ^ 64
+scaled : (i : ℕ) → i < 8 → i * 136 < 2 ^ 64
 scaled i l = omega (arith, l)
 
 -- the last answer fits
@@ -341,7 +341,7 @@ module _ {M : Type 1} (𝓤 : URA M) (H : Heap 𝓤) (A : Atoms 𝓤) (W : Given
         assigns ! (bin ! (load ! (from ! (stop !)) (look ! 34 refl)) (lit ! tt) (record { fits = scaled i within })) (from ! (stop !)) (init ! 22 refl (tt, record { fits = scaled i within })) $
         assigns ! (addr ! (from ! (hop ! (look ! 44 refl) (fld ! refl (stop !))))) (from ! (stop !)) (init ! 20 refl (tt, tt)) $
         assigns ! (bin ! (load ! (from ! (stop !)) (look ! 20 refl)) (load ! (from ! (stop !)) (look ! 22 refl)) tt) (from ! (stop !)) (init ! 18 refl (tt, tt)) $
-        rewrite ! 18 (λ (p : ℕ). ‵ (fat fullShare tyPtr l₁₄ 0 (vptr b p))) (sym (place-is 128 (o + 0) i)) refl $
+        rewrite ! 18 (λ (p : ℕ). ‵ (fat fullShare tyPtr l₁₄ 0 (vptr b p))) (sym (place-is 136 (o + 0) i)) refl $
         assigns ! (of-opd ! (load ! (from ! (hop ! (look ! 18 refl) (stop !))) (look-in ! 0 (slot-cell i within !))))
         (from ! (stop !)) (init ! 16 refl (LL.lawful S.the-type S′.the-laws 𝓤 H A W .typed (slotAt h i) _ (slot-of h _ was i within) .0)) $
         assigns ! (of-opd ! (load ! (from ! (stop !)) (look ! 16 refl))) (from ! (stop !)) (init ! 32 refl (LL.lawful S.the-type S′.the-laws 𝓤 H A W .typed (slotAt h i) _ (slot-of h _ was i within) .0)) $
@@ -368,7 +368,7 @@ module _ {M : Type 1} (𝓤 : URA M) (H : Heap 𝓤) (A : Atoms 𝓤) (W : Given
         assigns ! (bin ! (load ! (from ! (stop !)) (look ! 38 refl)) (lit ! tt) (record { fits = scaled i within })) (from ! (stop !)) (store ! 26 refl (tt, record { fits = scaled i within })) $
         assigns ! (addr ! (from ! (hop ! (look ! 48 refl) (fld ! refl (stop !))))) (from ! (stop !)) (init ! 10 refl (tt, tt)) $
         assigns ! (bin ! (load ! (from ! (stop !)) (look ! 10 refl)) (load ! (from ! (stop !)) (look ! 26 refl)) tt) (from ! (stop !)) (init ! 8 refl (tt, tt)) $
-        rewrite ! 8 (λ (p : ℕ). ‵ (fat fullShare tyPtr l₂₁ 0 (vptr b p))) (sym (place-is 128 (o + 0) i)) refl $
+        rewrite ! 8 (λ (p : ℕ). ‵ (fat fullShare tyPtr l₂₁ 0 (vptr b p))) (sym (place-is 136 (o + 0) i)) refl $
         assigns ! (of-opd ! (load ! (from ! (fld ! refl (stop !))) (look-in ! 34 (sub ! 0 refl (whole !))))) (from ! (hop ! (look ! 8 refl) (stop !)))
         (store-in ! 4 (slot-cell i within !) (LL.lawful S.the-type S′.the-laws 𝓤 H A W .typed (r .slot) _ (put-slot r _ is) .0)) $
         rewrite ! 4 (λ (us : List Val). ‵ (fat fullShare (rawTy T′.mir) b o (with-slots us))) (set-map S′.lowered (h .slots) i (r .slot)) refl $

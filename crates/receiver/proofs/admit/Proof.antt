@@ -11,29 +11,29 @@ read-requires c κs = search needs
 enum-known-a : tie.Need-enum-known-a
 enum-known-a c = search needs
 
-of-requires : tie.Need-of-requires
-of-requires c κs = search needs
+sender-of-requires : tie.Need-sender-of-requires
+sender-of-requires c κs = search needs
 
 is-gateway-requires : tie.Need-is-gateway-requires
 is-gateway-requires c κs = search needs
 
 returns : tie.Need-returns
-returns c = not-known _ _ _ (c .before .before .before .before .before .before .read .ensures) _ (c .before .before .before .before .a .given .1) (rw (c .before .before .of .ensures) at (sym (c .before .is-gateway .ensures) ∙ not-true _ (c .if1 .taken)))
+returns c = not-known _ _ _ (c .before .before .before .before .before .before .read .ensures) _ (c .before .before .before .before .a .given .1) (rw (c .before .before .sender-of .ensures) at (sym (c .before .is-gateway .ensures) ∙ not-true _ (c .if1 .taken)))
 
-of-requires-2 : tie.Need-of-requires-2
-of-requires-2 c κs = search needs
+of-requires : tie.Need-of-requires
+of-requires c κs = search needs
 
 is-present-requires : tie.Need-is-present-requires
 is-present-requires c κs = search needs
 
 returns-2 : tie.Need-returns-2
-returns-2 c = let-in _ _ _ (c .before .before .before .before .before .before .before .before .before .read .ensures) _ (c .before .before .before .before .before .before .before .a .given .1) (rw (c .before .before .before .before .before .of .ensures) at (sym (c .before .before .before .before .is-gateway .ensures) ∙ not-false _ (c .before .before .before .if1 .left))) (rw (c .before .before .of2 .ensures) at (sym (c .before .is-present .ensures) ∙ c .if2 .taken))
+returns-2 c = let-in _ _ _ (c .before .before .before .before .before .before .before .before .before .read .ensures) _ (c .before .before .before .before .before .before .before .a .given .1) (rw (c .before .before .before .before .before .sender-of .ensures) at (sym (c .before .before .before .before .is-gateway .ensures) ∙ not-false _ (c .before .before .before .if1 .left))) (rw (c .before .before .of .ensures) at (sym (c .before .is-present .ensures) ∙ c .if2 .taken))
 
 enum-known-e : tie.Need-enum-known-e
 enum-known-e c = search needs
 
 returns-3 : tie.Need-returns-3
-returns-3 c = not-addressed _ _ _ (c .before .before .before .before .before .before .before .before .before .read .ensures) _ (c .before .before .before .before .before .before .before .a .given .1) (rw (c .before .before .before .before .before .of .ensures) at (sym (c .before .before .before .before .is-gateway .ensures) ∙ not-false _ (c .before .before .before .if1 .left))) (rw (c .before .before .of2 .ensures) at (sym (c .before .is-present .ensures) ∙ c .if2 .left))
+returns-3 c = not-addressed _ _ _ (c .before .before .before .before .before .before .before .before .before .read .ensures) _ (c .before .before .before .before .before .before .before .a .given .1) (rw (c .before .before .before .before .before .sender-of .ensures) at (sym (c .before .before .before .before .is-gateway .ensures) ∙ not-false _ (c .before .before .before .if1 .left))) (rw (c .before .before .of .ensures) at (sym (c .before .is-present .ensures) ∙ c .if2 .left))
 
 returns-4 : tie.Need-returns-4
 returns-4 c = no-sender _ _ _ (c .before .before .before .read .ensures) _ (c .before .e .given .1)
@@ -44,10 +44,10 @@ admit-spec =
     (tie.spec
     read-requires
     enum-known-a
-    of-requires
+    sender-of-requires
     is-gateway-requires
     returns
-    of-requires-2
+    of-requires
     is-present-requires
     returns-2
     enum-known-e

@@ -14,8 +14,8 @@ abbrev μ-loop : tie.MeasureT-loop
 loop-holds : tie.Need-loop-holds Inv-loop μ-loop
 loop-holds c = search needs
 
-link-requires : tie.Need-link-requires Inv-loop μ-loop
-link-requires c κs = search needs
+gateway-requires : tie.Need-gateway-requires Inv-loop μ-loop
+gateway-requires c κs = search needs
 
 mul-all : tie.Need-mul-all Inv-loop μ-loop
 mul-all c = search needs
@@ -90,7 +90,7 @@ gateways-spec =
     Inv-loop
     μ-loop
     loop-holds
-    link-requires
+    gateway-requires
     mul-all
     array-set-from-all
     add-count

@@ -5,14 +5,14 @@ use mathlib.Core.Logic.{⊎-elim}
 use lib.ListN.{length, drop, take}
 use lib.Seq.{getD-take, length-take-le}
 use Rattle.reassembly.specs.Lists.{count}
-use Rattle.reassembly.specs.Slots.{sameNode}
+use Rattle.reassembly.specs.Slots.{sameSource}
 use Rattle.reassembly.proofs.Lists.{count-hit, count-miss, count-end}
 use borrow.Author.Needs.{needs}
 use Rattle.reassembly.proofs.table.count_seats.Statement.{statement}
 use Rattle.reassembly.proofs.table.count_seats.Tie as tie
 
 abbrev Inv-loop : tie.InvT-loop
-Inv-loop size g seats n₀ i₀ n i = (i ≤ size) × (n ≤ i) × (count (sameNode g) (take size seats) ≡ n + count (sameNode g) (drop i (take size seats)))
+Inv-loop size g seats n₀ i₀ n i = (i ≤ size) × (n ≤ i) × (count (sameSource g) (take size seats) ≡ n + count (sameSource g) (drop i (take size seats)))
 
 abbrev μ-loop : tie.MeasureT-loop
 μ-loop size g seats n₀ i₀ n i = size - i
@@ -45,10 +45,10 @@ loop-again c =
     let l = take (a .size) (a .t1) in
     let n : length l ≡ a .size = length-take-le (a .size) (a .t1) (omega (arith, b .before .good .0 .1 .0 .1, b .before .pre)) in
     let h : b .loop .i < length l = omega arith in
-    let e = ap (sameNode (a .g)) (getD-take (a .size) (a .t1) (b .loop .i) _ (c .before .before .before .loop-test .taken)) ∙ sym (c .before .same .ensures) in
+    let e = ap (sameSource (a .g)) (getD-take (a .size) (a .t1) (b .loop .i) _ (c .before .before .before .loop-test .taken)) ∙ sym (c .before .same .ensures) in
     ⊎-elim
-    (λ w. let k = count-hit (sameNode (a .g)) l (b .loop .i) _ h (e ∙ w .0 .taken) in (omega arith, omega arith, omega arith))
-    (λ w. let k = count-miss (sameNode (a .g)) l (b .loop .i) _ h (e ∙ w .0 .left) in (omega arith, omega arith, omega arith))
+    (λ w. let k = count-hit (sameSource (a .g)) l (b .loop .i) _ h (e ∙ w .0 .taken) in (omega arith, omega arith, omega arith))
+    (λ w. let k = count-miss (sameSource (a .g)) l (b .loop .i) _ h (e ∙ w .0 .left) in (omega arith, omega arith, omega arith))
     (c .if1 .came)
 
 returns : tie.Need-returns Inv-loop μ-loop
@@ -57,7 +57,7 @@ returns c =
     let a = b .before .args in
     let l = take (a .size) (a .t1) in
     let n : length l ≡ b .loop .i = length-take-le (a .size) (a .t1) (omega (arith, b .before .good .0 .1 .0 .1, b .before .pre)) ∙ omega arith in
-    omega (arith, count-end (sameNode (a .g)) l (b .loop .i) n)
+    omega (arith, count-end (sameSource (a .g)) l (b .loop .i) n)
 
 pub count-seats-spec : {M : Type 1} → statement M
 count-seats-spec =

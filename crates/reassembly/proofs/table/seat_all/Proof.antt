@@ -2,28 +2,28 @@ use Prim.Native.Nat.{_≤_, _<_, _+_, _-_}
 use native.Mathlib.Omega.{arith}
 use mathlib.Core.Path.{_≡_, ap, _∙_}
 use lib.ListN.{length}
-use Rattle.reassembly.specs.Slots.{noNode}
-use Rattle.reassembly.specs.Fresh.{seats, nodes}
+use Rattle.reassembly.specs.Slots.{noNode, noSource}
+use Rattle.reassembly.specs.Fresh.{seats, sources}
 use Rattle.reassembly.proofs.Fresh.{seat-none, seat-more}
 use borrow.Author.Needs.{needs}
 use Rattle.reassembly.proofs.table.seat_all.Statement.{statement}
 use Rattle.reassembly.proofs.table.seat_all.Tie as tie
 
 abbrev Inv-loop : tie.InvT-loop
-Inv-loop count gateways all₀ i₀ all i = (i ≤ count) × (all ≡ seats (nodes i gateways))
+Inv-loop count gateways all₀ i₀ all i = (i ≤ count) × (all ≡ seats (sources i gateways))
 
 abbrev μ-loop : tie.MeasureT-loop
 μ-loop count gateways all₀ i₀ all i = count - i
 
 loop-holds : tie.Need-loop-holds Inv-loop μ-loop
-unfolding noNode
+unfolding noSource noNode
 loop-holds c = (search needs, seat-none _)
 
-mul-a : tie.Need-mul-a Inv-loop μ-loop
-mul-a c = search needs
+mul-g : tie.Need-mul-g Inv-loop μ-loop
+mul-g c = search needs
 
-array-copy-out-a : tie.Need-array-copy-out-a Inv-loop μ-loop
-array-copy-out-a c = search needs
+array-copy-out-g : tie.Need-array-copy-out-g Inv-loop μ-loop
+array-copy-out-g c = search needs
 
 of-requires : tie.Need-of-requires Inv-loop μ-loop
 of-requires c κs = search needs
@@ -60,8 +60,8 @@ seat-all-spec =
     Inv-loop
     μ-loop
     loop-holds
-    mul-a
-    array-copy-out-a
+    mul-g
+    array-copy-out-g
     of-requires
     mul-all
     array-set-from-all

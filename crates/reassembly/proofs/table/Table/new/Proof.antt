@@ -5,7 +5,7 @@ use native.Mathlib.Omega.{arith}
 use lib.Dec.{leb}
 use lib.ListN.{length, take}
 use Rattle.reassembly.specs.Lists.{count}
-use Rattle.reassembly.specs.Fresh.{seats, nodes, unfit}
+use Rattle.reassembly.specs.Fresh.{seats, sources, unfit}
 use Rattle.reassembly.proofs.Fresh.{take-seats, begins-long, begins-unfit, begins}
 use Rattle.reassembly.proofs.Lists.{unmapped}
 use borrow.Author.Needs.{needs}
@@ -35,8 +35,8 @@ returns-2 c =
     let a = b .args in
     let short = c .before .before .before .before .if1 .left in
     let h : a .count ≤ length (a .gateways) = omega (arith, b .good .0 .1 .0 .1) in
-    let q : take (a .count) (c .before .before .before .seat-all .result) ≡ nodes (a .count) (a .gateways) = ap (take (a .count)) (c .before .before .before .seat-all .ensures) ∙ take-seats (a .count) (a .gateways) h in
-    let u : leb 1 (count (unfit (nodes (a .count) (a .gateways))) (nodes (a .count) (a .gateways))) ≡ true = rw q at (sym (c .before .before .has-unfit .ensures) ∙ c .before .if2 .taken) in
+    let q : take (a .count) (c .before .before .before .seat-all .result) ≡ sources (a .count) (a .gateways) = ap (take (a .count)) (c .before .before .before .seat-all .ensures) ∙ take-seats (a .count) (a .gateways) h in
+    let u : leb 1 (count (unfit (sources (a .count) (a .gateways))) (sources (a .count) (a .gateways))) ≡ true = rw q at (sym (c .before .before .has-unfit .ensures) ∙ c .before .if2 .taken) in
     begins-unfit (a .count) (a .gateways) short u _ _ (c .refused2 .ensures .0) (c .refused2 .ensures .1)
 
 of-requires : tie.Need-of-requires
@@ -48,8 +48,8 @@ returns-3 c =
     let a = b .args in
     let short = c .before .before .before .before .if1 .left in
     let h : a .count ≤ length (a .gateways) = omega (arith, b .good .0 .1 .0 .1) in
-    let q : take (a .count) (c .before .before .before .seat-all .result) ≡ nodes (a .count) (a .gateways) = ap (take (a .count)) (c .before .before .before .seat-all .ensures) ∙ take-seats (a .count) (a .gateways) h in
-    let u : leb 1 (count (unfit (nodes (a .count) (a .gateways))) (nodes (a .count) (a .gateways))) ≡ false = rw q at (sym (c .before .before .has-unfit .ensures) ∙ c .before .if2 .left) in
+    let q : take (a .count) (c .before .before .before .seat-all .result) ≡ sources (a .count) (a .gateways) = ap (take (a .count)) (c .before .before .before .seat-all .ensures) ∙ take-seats (a .count) (a .gateways) h in
+    let u : leb 1 (count (unfit (sources (a .count) (a .gateways))) (sources (a .count) (a .gateways))) ≡ false = rw q at (sym (c .before .before .has-unfit .ensures) ∙ c .before .if2 .left) in
     begins (a .count) (a .gateways) short u _ (rw (c .before .before .before .seat-all .ensures) at (c .of .ensures))
 
 pub new-spec : {M : Type 1} → statement M

@@ -1,5 +1,5 @@
 use mathlib.Core.Path.{_≡_, refl, _∙_}
-use Rattle.reassembly.specs.Slots.{noNode}
+use Rattle.reassembly.specs.Slots.{noNode, noSource}
 use Rattle.reassembly.specs.Fresh.{seats, fresh}
 use borrow.Author.Needs.{needs}
 use Rattle.reassembly.proofs.table.Table.refused.Statement.{statement}
@@ -9,7 +9,7 @@ of-requires : tie.Need-of-requires
 of-requires c κs = search needs
 
 returns : tie.Need-returns
-unfolding fresh seats noNode
+unfolding fresh seats noSource noNode
 returns c = (refl, c .of .ensures)
 
 pub refused-spec : {M : Type 1} → statement M
