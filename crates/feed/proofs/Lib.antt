@@ -3,3 +3,4 @@ pub mod Blocks
 pub mod Sorting
 pub mod States
 pub mod Promises
+pub mod Refused

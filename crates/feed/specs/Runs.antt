@@ -1,7 +1,10 @@
 -- What a run of chunks comes to: the frames and times that the answers hold, the first thing that went wrong, and the last reader.
 use Prim.Native.Nat.{ℕ, _≤_}
+use mathlib.Core.Bool.{Bool, true, false}
 use mathlib.Core.List.{List, [], _∷_, _++_}
 use lib.ListN.{length}
+use lib.Dec.{leb}
+use Rattle.octets.specs.Read.{choose}
 use Rattle.octets.specs.Refusal.{numberOf}
 use Rattle.capture.specs.Block.{Timed, framesOf}
 use Rattle.capture.specs.File.{First, none, badAt, refusal, Told, pieces}
@@ -67,3 +70,44 @@ feedFile f ss = andEnd (feedAll f ss)
 unfoldable pub Short : List (List ℕ) → Type 0
 Short [] = Unit {0}
 Short (s ∷ ss) = (length s ≤ 600) × Short ss
+
+-- ---- any calls, in any order
+pub data Call : Type 0 where
+  piece : List ℕ → Call
+  finish : Call
+
+abbrev pub answered : Reader → Call → Fed
+answered f (piece s) = afterChunk f s
+answered f finish = afterEnd f
+
+-- every answer, and the last reader
+pub record Session : Type 0 where
+  pub answers : List Fed
+  pub reader : Reader
+
+unfoldable pub callAll : Reader → List Call → Session
+callAll f [] = record { answers = []; reader = f }
+callAll f (c ∷ cs) = record {
+  answers = answered f c ∷ callAll (answered f c .reader) cs .answers;
+  reader = callAll (answered f c .reader) cs .reader;
+}
+
+abbrev pub isRefused : Found → Bool
+isRefused (Found.Blocks n) = false
+isRefused (Found.Bad n b) = false
+isRefused (Found.Refused e) = true
+
+-- the calls that are not refused, each where it comes
+unfoldable pub accepted : Reader → List Call → List Call
+accepted f [] = []
+accepted f (c ∷ cs) = choose (isRefused (answered f c .found)) (accepted (answered f c .reader) cs) (c ∷ accepted (answered f c .reader) cs)
+
+-- the answers that are no refusals
+unfoldable pub granted : List Fed → List Fed
+granted [] = []
+granted (a ∷ xs) = choose (isRefused (a .found)) (granted xs) (a ∷ granted xs)
+
+-- chunks that the cable may bring, out of any
+unfoldable pub shortOnes : List (List ℕ) → List (List ℕ)
+shortOnes [] = []
+shortOnes (s ∷ ss) = choose (leb (length s) 600) (s ∷ shortOnes ss) (shortOnes ss)
