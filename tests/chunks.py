@@ -1,14 +1,14 @@
 #!/usr/bin/env python3
 """A capture over the service cable: document 02's item 8 read a second time, and the program `chunks` beside it.
 
-    chunks.py write                                       the vectors: crates/chunks/stdin and crates/chunks/stdout
-    chunks.py check                                       makes them anew, compares, and has the second reading answer each line
-    chunks.py --chunks PATH [--count 1000] [--seed 1]     the program beside the second reading
-    chunks.py mutants [--count 1000] [--seed 1]           do the runs tell the second reading from wrong ones?
+    chunks.py write                                    the vectors: crates/chunks/stdin and crates/chunks/stdout
+    chunks.py check                                    makes them anew, and has the second reading answer each line
+    chunks.py --chunks PATH [--count 1000] [--seed 1]  the program beside the second reading
+    chunks.py mutants [--count 1000] [--seed 1]        do the runs tell the second reading from wrong ones?
 
-The lines: `chunk HEX` (`-` for no bytes) or `end`, answered `ok` with ` TIME:HEX` for each frame found, then ` bad B` where
-block B is bad, or `no 4`, `no 15`; `new` begins again and is answered `ok`. A line that begins with `#` is echoed, any other
-is answered `bad`.
+The lines: `chunk HEX` (`-` for no bytes) or `end`, answered `ok` with ` TIME:HEX` for each frame found, then ` bad B`
+where block B is bad, or `no 4`, `no 15`; `new` begins again and is answered `ok`. A line that begins with `#` is
+echoed, any other is answered `bad`.
 """
 
 import argparse
@@ -57,7 +57,8 @@ class Cable:
         return frames, None
 
     def take(self, chunk, end=False):
-        """"Refusals: 4 for a chunk over 600, then 15 for a chunk or end after the end or a bad block; the state stays." """
+        """"Refusals: 4 for a chunk over 600, then 15 for a chunk or end after the end or a bad block; the state
+        stays." """
         if len(chunk) > 600:
             raise model.Refused(4)
         if not self.open:
@@ -67,6 +68,14 @@ class Cable:
         found, self.known = frames[self.known:], len(frames)
         self.open = bad is None and not end
         return found, bad
+
+
+def bytes_of(text):
+    """Pairs of lower-case hexadecimal digits, or `-` for no bytes."""
+    data = b"" if text == "-" else bytes.fromhex(text)
+    if (data.hex() or "-") != text:
+        raise ValueError(text)
+    return data
 
 
 def found_text(frames, bad):
@@ -84,7 +93,7 @@ class CableLines:
         name, *fields = line.split(" ")
         try:
             if name == "chunk" and len(fields) == 1:
-                return found_text(*self.cable.take(model.parse_bytes(fields[0])))
+                return found_text(*self.cable.take(bytes_of(fields[0])))
             if line == "end":
                 return found_text(*self.cable.take(b"", end=True))
         except model.Refused as refused:
@@ -115,13 +124,13 @@ def cut(file, places):
 
 
 SIZES = (0, 0, 1, 2, 255, 510, 511, 512, 513, 599, 600)
-STRAYS = ("nonsense", "chunk", "chunk ", "chunk 0", "chunk 0g", "chunk AB", "chunk 00 00", "chunk  00", "chunk --", "end ", "ends",
-          "end -", "new ", "news", "", " new", "Chunk -", "chunks -", "# a remark")
+STRAYS = ("nonsense", "chunk", "chunk ", "chunk 0", "chunk 0g", "chunk AB", "chunk 00 00", "chunk  00", "chunk --",
+          "end ", "ends", "end -", "new ", "news", "", " new", "Chunk -", "chunks -", "# a remark")
 
 
 def make(seed, number):
-    """The lines of the run of this number: a capture of captures.py, cut at random, with calls between that are refused,
-    calls behind the end, lines that are no calls, and sometimes a beginning anew."""
+    """The lines of the run of this number: a capture of captures.py, cut at random, with calls between that are
+    refused, calls behind the end, lines that are no calls, and sometimes a beginning anew."""
     rng = random.Random(f"chunks {seed} {number}")
     file = captures.encode(captures.make(seed, number))
     lines, at = [], 0
@@ -163,12 +172,12 @@ def every_cutting():
 
 
 def damaged_cuttings():
-    """Files with a bad block and files that are cut short or have more, each cut at every two of the places that matter.
-    Chunks of over 600 are among them."""
+    """Files with a bad block and files that are cut short or have more, each cut at every two of the places that
+    matter. Chunks of over 600 are among them."""
     good = two_blocks()
     places = (0, 1, 424, 425, 511, 512, 513, 599, 600, 601, 1023, 1024)
-    for file in (two_blocks(3), two_blocks(511), two_blocks(515), two_blocks(1023), good[:1], good[:511], good[:513], good[:1023],
-                 good + b"\0", good + bytes(511), good + bytes(512), good + good):
+    for file in (two_blocks(3), two_blocks(511), two_blocks(515), two_blocks(1023), good[:1], good[:511], good[:513],
+                 good[:1023], good + b"\0", good + bytes(511), good + bytes(512), good + good):
         for a in places:
             for b in places:
                 if a <= b <= len(file):
@@ -199,8 +208,8 @@ def vectors():
     second = block(1, [(5, b"\x0a"), (4, b"\x0b")])
     third = block(2, [(0, b"\x00")])
     shown = f" 1000:0102 1001:- 4294967295:{'fe' * 127}"
-    remark("Vectors for a capture in chunks, written by tests/chunks.py. The answers were written by hand from document 02, item 8.")
-    remark("No bytes at all: the end is behind a whole block, and behind it all is 15, but a chunk over 600 is 4 first")
+    remark("A capture in chunks, written by tests/chunks.py. The answers were written by hand from document 02, item 8.")
+    remark("No bytes at all: the file is whole, and behind its end all is 15, but a chunk over 600 is 4 first")
     say("end", "ok")
     say("end", "no 15")
     say("chunk -", "no 15")
@@ -212,8 +221,8 @@ def vectors():
     say("end", "ok")
     remark("Empty chunks before, between and behind")
     new()
-    for data, answer in ((b"", "ok"), (first[:1], "ok"), (b"", "ok"), (first[1:511], "ok"), (b"", "ok"), (first[511:], "ok" + shown),
-                         (b"", "ok")):
+    for data, answer in ((b"", "ok"), (first[:1], "ok"), (b"", "ok"), (first[1:511], "ok"), (b"", "ok"),
+                         (first[511:], "ok" + shown), (b"", "ok")):
         say(chunk(data), answer)
     say("end", "ok")
     remark("Two blocks in one chunk: 511 bytes are held, and 600 more come; 87 of the third are held then")
@@ -239,7 +248,7 @@ def vectors():
         say("end", f"ok bad {number}")
         say("end", "no 15")
         say(chunk(file[length:length + 600]), "no 15")
-    remark("A bad block is found with its number, behind the frames of a good one in the same chunk; its own frames are not handed on")
+    remark("A bad block is found with its number, behind the frames of a good one; its own frames are not handed on")
     turned = block(1, [(5, b"\x0a"), (4, b"\x0b")], after=[(511, second[511] ^ 128)])
     new()
     say(chunk((first + turned)[:500]), "ok")
@@ -267,7 +276,8 @@ def vectors():
     remark("What is no line of these is answered bad, and changes nothing")
     new()
     say(chunk(first[:511]), "ok")
-    for stray in ("chunk", "chunk ", "chunk 0", "chunk 0g", "chunk 0A", "chunk 00 00", "end ", "end 1", "new 0", "begin", ""):
+    for stray in ("chunk", "chunk ", "chunk 0", "chunk 0g", "chunk 0A", "chunk 00 00", "end ", "end 1", "new 0", "begin",
+                  ""):
         say(stray, "bad")
     say(chunk(first[511:]), "ok" + shown)
     remark("new forgets what was held")
@@ -350,7 +360,7 @@ def gathered(runs, most):
 
 
 def compare(answer, name, runs, most):
-    """How many runs are answered as the second reading answers them; None at the first difference. Each run begins anew."""
+    """How many runs are answered as the second reading answers them; None at the first difference."""
     count = 0
     for some in gathered(runs, most):
         lines = [line for run in some for line in run]
@@ -382,8 +392,10 @@ MUTANTS = [
     ("a chunk of 600 is too long", "if len(chunk) > 600:", "if len(chunk) >= 600:"),
     ("a chunk of 601 is taken", "if len(chunk) > 600:", "if len(chunk) > 601:"),
     ("15 before 4", "if len(chunk) > 600:", "if len(chunk) > 600 and self.open:"),
-    ("a chunk over 600 closes", "            raise model.Refused(4)", "            self.open = False\n            raise model.Refused(4)"),
-    ("a chunk over 600 is held", "            raise model.Refused(4)", "            self.file += chunk\n            raise model.Refused(4)"),
+    ("a chunk over 600 closes", "            raise model.Refused(4)",
+     "            self.open = False\n            raise model.Refused(4)"),
+    ("a chunk over 600 is held", "            raise model.Refused(4)",
+     "            self.file += chunk\n            raise model.Refused(4)"),
     ("an empty chunk behind the end is taken", "if not self.open:", "if not self.open and (chunk or end):"),
     ("a second end is taken", "if not self.open:", "if not self.open and not end:"),
     ("a bad block does not close", "self.open = bad is None and not end", "self.open = not end"),
@@ -403,7 +415,8 @@ MUTANTS = [
     ("numbers are not judged", "BLOCK * (number + 1)], number)",
      "BLOCK * (number + 1)], int.from_bytes(self.file[BLOCK * number:][:4], 'little'))"),
     ("the bad block's number is the next one's", "f\"{text} bad {bad}\"", "f\"{text} bad {bad + 1}\""),
-    ("new does not begin again", "            self.cable = Cable()\n            return \"ok\"", "            return \"ok\""),
+    ("new does not begin again", "            self.cable = Cable()\n            return \"ok\"",
+     "            return \"ok\""),
 ]
 
 
@@ -431,7 +444,7 @@ def mutants(seed, count):
 
 
 def main():
-    parser = argparse.ArgumentParser(description="a capture in chunks: the second reading, the vectors, the program beside it")
+    parser = argparse.ArgumentParser(description="a capture in chunks: the second reading, vectors, the program beside it")
     parser.add_argument("what", nargs="?", choices=("write", "check", "mutants"))
     parser.add_argument("--chunks", help="the program: it reads lines and answers each with a line")
     parser.add_argument("--count", type=int, default=1000)

@@ -2,11 +2,12 @@
 use text::field;
 use text::line;
 
-// What an answer takes at most beyond the line itself: six frames of 127 bytes in hexadecimal with their times, and a few words.
+// What an answer takes at most beyond the line itself: six frames of 127 bytes in hexadecimal with their times, and a
+// few words.
 const LONGEST: usize = 2048;
 
-// The input that is read and not answered yet stands from `start` to `have`; no line ends before `from`. The beginning of a line
-// that was too long is gone and answered: the rest of it is to be skipped. `more`: whether the run goes on.
+// The input that is read and not answered yet stands from `start` to `have`; no line ends before `from`. The beginning
+// of a line that was too long is gone and answered: the rest of it is to be skipped. `more`: whether the run goes on.
 pub struct Unread {
     pub start: usize,
     pub from: usize,
@@ -90,8 +91,8 @@ fn too_long(u: Unread) -> Unread {
     }
 }
 
-// Reads more behind the first `n` bytes of the input, which hold no end of a line. Where nothing comes any more, the last line gets
-// the end that it lacks.
+// Reads more behind the first `n` bytes of the input, which hold no end of a line. Where nothing comes any more, the
+// last line gets the end that it lacks.
 fn read_on(read: &mut [u8], n: usize, skip: bool) -> Unread {
     if read.len() <= n {
         return Unread::STOPPED;

@@ -1,8 +1,9 @@
-// Takes a capture in chunks: a line on standard input, its answer a line on standard output (tests/README.md has the protocol).
-// A line that starts with `#` is answered by itself, one that is no command by `bad`, one that does not fit the input by `bad
-// long`.
+// Takes a capture in chunks: a line on standard input, its answer a line on standard output (tests/README.md has the
+// lines). A line that starts with `#` is answered by itself, one that is none of these by `bad`, one that does not fit
+// the input by `bad long`.
 //
-// - `commands`: what the lines `chunk`, `end` and `new` do. `answer`: the parts of an answer. `input`: lines out of what is read.
+// - `commands`: what the lines `chunk`, `end` and `new` do. `answer`: the parts of an answer. `input`: lines out of
+//   what is read.
 mod answer;
 mod commands;
 mod input;

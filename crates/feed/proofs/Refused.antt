@@ -1,6 +1,6 @@
--- A refused call changes nothing: a run with refused calls is the run without them, and chunks that are too long, wherever they
--- come, leave the whole file's frames as they are.
-use Prim.Native.Nat.{ℕ, _≤_, _<_}
+-- A refused call changes nothing: a run with refused calls is the run without them, and chunks that are too long,
+-- wherever they come, leave the frames of the whole file as they are.
+use Prim.Native.Nat.{ℕ}
 use native.Mathlib.Omega.{arith}
 use mathlib.Core.Bool.{Bool, true, false}
 use mathlib.Core.List.{List, [], _∷_, _++_}
@@ -13,7 +13,9 @@ use Rattle.octets.specs.declared.refusal.Refusal.the-variants.{BadLength}
 use Rattle.capture.specs.Block.{Timed}
 use Rattle.capture.specs.File.{Told, joined, wholeFile}
 use Rattle.feed.specs.Feed.{starting, declined, afterChunk, afterEnd}
-use Rattle.feed.specs.Runs.{framesIn, Run, feedAll, feedFile, Short, Call, piece, finish, answered, Session, callAll, isRefused, accepted, granted, shortOnes}
+use Rattle.feed.specs.Runs.{framesIn, feedAll, feedFile, Short, shortOnes, Alike}
+use Rattle.feed.specs.Runs.{Call, piece, finish, answered, Session, callAll}
+use Rattle.feed.specs.Runs.{isRefused, accepted, granted, withoutRefused}
 use Rattle.feed.specs.declared.reader.Reader.{Reader}
 use Rattle.feed.specs.declared.reader.Found.{Found}
 use Rattle.feed.specs.declared.reader.Fed.{Fed}
@@ -34,27 +36,28 @@ module _ (f : Reader) where
   pub refused-call : (c : Call) → isRefused (answered f c .found) ≡ true → answered f c .reader ≡ f
   refused-call c t = reader-of c (answered f c .found) refl t
 
--- ---- a run of calls
-without : Session → Session
-without q = record { answers = granted (q .answers); reader = q .reader }
+-- ---- any calls, in any order
+abbrev on : Reader → Call → Reader
+on f c = answered f c .reader
 
 step : (t : Bool) (f : Reader) (c : Call) (cs : List Call) → isRefused (answered f c .found) ≡ t
-    → callAll (answered f c .reader) (accepted (answered f c .reader) cs) ≡ without (callAll (answered f c .reader) cs)
-    → callAll f (accepted f (c ∷ cs)) ≡ without (callAll f (c ∷ cs))
-unfolding callAll accepted granted without
-step true f c cs t h =
-    let g = answered f c .reader in
-    rw t (ap (λ (x : Reader). callAll x (accepted g cs)) (sym (refused-call f c t)) ∙ h)
+    → callAll (on f c) (accepted (on f c) cs) ≡ withoutRefused (callAll (on f c) cs)
+    → callAll f (accepted f (c ∷ cs)) ≡ withoutRefused (callAll f (c ∷ cs))
+unfolding callAll accepted granted
+step true f c cs t h = rw t (ap (λ (x : Reader). callAll x (accepted (on f c) cs)) (sym (refused-call f c t)) ∙ h)
 step false f c cs t h =
     rw t (ap (λ (q : Session). record { answers = answered f c ∷ q .answers; reader = q .reader }) h)
 
-pub without-refused : (f : Reader) (cs : List Call) → callAll f (accepted f cs) ≡ record { answers = granted (callAll f cs .answers); reader = callAll f cs .reader }
-unfolding callAll accepted granted without
+-- the run of the calls that are not refused has the other answers, and the last reader is the same
+pub without-refused : (f : Reader) (cs : List Call) → callAll f (accepted f cs) ≡ withoutRefused (callAll f cs)
+unfolding callAll accepted granted
 without-refused f [] = refl
-without-refused f (c ∷ cs) = step (isRefused (answered f c .found)) f c cs refl (without-refused (answered f c .reader) cs)
+without-refused f (c ∷ cs) = step (isRefused (answered f c .found)) f c cs refl (without-refused (on f c) cs)
 
 -- ---- chunks that are too long, among others
-short-go : (t : Bool) (s : List ℕ) (ss : List (List ℕ)) → leb (length s) 600 ≡ t → Short (shortOnes ss) → Short (shortOnes (s ∷ ss))
+short-go : (t : Bool) (s : List ℕ) (ss : List (List ℕ)) → leb (length s) 600 ≡ t
+    → Short (shortOnes ss)
+    → Short (shortOnes (s ∷ ss))
 unfolding Short shortOnes
 short-go true s ss e h = rw e (leb-true (length s) 600 e, h)
 short-go false s ss e h = rw e h
@@ -64,11 +67,8 @@ unfolding Short shortOnes
 short-ones [] = tt
 short-ones (s ∷ ss) = short-go (leb (length s) 600) s ss refl (short-ones ss)
 
--- the same frames with their times, and the same reader behind them
-abbrev pub Alike : Run → Run → Type 0
-Alike p q = (p .told .frames ≡ q .told .frames) × (p .reader ≡ q .reader)
-
-alike-go : (t : Bool) (f : Reader) (s : List ℕ) (ss : List (List ℕ)) → leb (length s) 600 ≡ t → ((g : Reader) → Alike (feedAll g ss) (feedAll g (shortOnes ss)))
+alike-go : (t : Bool) (f : Reader) (s : List ℕ) (ss : List (List ℕ)) → leb (length s) 600 ≡ t
+    → ((g : Reader) → Alike (feedAll g ss) (feedAll g (shortOnes ss)))
     → Alike (feedAll f (s ∷ ss)) (feedAll f (shortOnes (s ∷ ss)))
 unfolding feedAll shortOnes
 alike-go true f s ss e h =
@@ -78,16 +78,22 @@ alike-go false f s ss e h =
     let p = long-refused f s (leb-false (length s) 600 e) in
     let a : afterChunk f s .reader ≡ f = ap (λ (x : Fed). x .reader) p ∙ declined-stays f BadLength .0 in
     let b : framesIn (afterChunk f s) ≡ [] = ap framesIn p ∙ declined-stays f BadLength .1 in
-    rw e (ap₂ (λ (l : List Timed) (g : Reader). l ++ feedAll g ss .told .frames) b a ∙ h f .0, ap (λ (g : Reader). feedAll g ss .reader) a ∙ h f .1)
+    let l = ap₂ (λ (x : List Timed) (g : Reader). x ++ feedAll g ss .told .frames) b a in
+    rw e (l ∙ h f .0, ap (λ (g : Reader). feedAll g ss .reader) a ∙ h f .1)
 
 pub long-ones-out : (f : Reader) (cs : List (List ℕ)) → Alike (feedAll f cs) (feedAll f (shortOnes cs))
 unfolding feedAll shortOnes
 long-ones-out f [] = (refl, refl)
 long-ones-out f (s ∷ ss) = alike-go (leb (length s) 600) f s ss refl (λ g. long-ones-out g ss)
 
--- the frames and times are those of the file that the chunks of at most 600 bytes make
-pub every-cutting-among : (cs : List (List ℕ)) → (feedFile starting cs .told .frames ≡ wholeFile (joined (shortOnes cs)) .frames) × (feedFile starting cs .reader ≡ feedFile starting (shortOnes cs) .reader)
-every-cutting-among cs =
-    let h = long-ones-out starting cs in
-    let a : feedFile starting cs .told .frames ≡ feedFile starting (shortOnes cs) .told .frames = ap₂ (λ (l : List Timed) (g : Reader). l ++ framesIn (afterEnd g)) (h .0) (h .1) in
-    (a ∙ ap (λ (x : Told). x .frames) (every-cutting (shortOnes cs) (short-ones cs)), ap (λ (g : Reader). afterEnd g .reader) (h .1))
+module _ (cs : List (List ℕ)) where
+  pub ends-alike : Alike (feedFile starting cs) (feedFile starting (shortOnes cs))
+  ends-alike =
+      let h = long-ones-out starting cs in
+      let l = ap₂ (λ (x : List Timed) (g : Reader). x ++ framesIn (afterEnd g)) (h .0) (h .1) in
+      (l, ap (λ (g : Reader). afterEnd g .reader) (h .1))
+
+  -- the frames and times are those of the file that the chunks of at most 600 bytes make
+  pub every-cutting-among : feedFile starting cs .told .frames ≡ wholeFile (joined (shortOnes cs)) .frames
+  every-cutting-among =
+      ends-alike .0 ∙ ap (λ (x : Told). x .frames) (every-cutting (shortOnes cs) (short-ones cs))

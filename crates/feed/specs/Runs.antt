@@ -1,7 +1,9 @@
--- What a run of chunks comes to: the frames and times that the answers hold, the first thing that went wrong, and the last reader.
+-- What a run of calls comes to: the frames and times that the answers hold, the first thing that went wrong, and the
+-- last reader.
 use Prim.Native.Nat.{ℕ, _≤_}
 use mathlib.Core.Bool.{Bool, true, false}
 use mathlib.Core.List.{List, [], _∷_, _++_}
+use mathlib.Core.Path.{_≡_}
 use lib.ListN.{length}
 use lib.Dec.{leb}
 use Rattle.octets.specs.Read.{choose}
@@ -100,14 +102,25 @@ isRefused (Found.Refused e) = true
 -- the calls that are not refused, each where it comes
 unfoldable pub accepted : Reader → List Call → List Call
 accepted f [] = []
-accepted f (c ∷ cs) = choose (isRefused (answered f c .found)) (accepted (answered f c .reader) cs) (c ∷ accepted (answered f c .reader) cs)
+accepted f (c ∷ cs) =
+    choose (isRefused (answered f c .found))
+    (accepted (answered f c .reader) cs)
+    (c ∷ accepted (answered f c .reader) cs)
 
 -- the answers that are no refusals
 unfoldable pub granted : List Fed → List Fed
 granted [] = []
 granted (a ∷ xs) = choose (isRefused (a .found)) (granted xs) (a ∷ granted xs)
 
--- chunks that the cable may bring, out of any
+abbrev pub withoutRefused : Session → Session
+withoutRefused q = record { answers = granted (q .answers); reader = q .reader }
+
+-- ---- chunks of any length
+-- those that the cable may bring
 unfoldable pub shortOnes : List (List ℕ) → List (List ℕ)
 shortOnes [] = []
 shortOnes (s ∷ ss) = choose (leb (length s) 600) (s ∷ shortOnes ss) (shortOnes ss)
+
+-- the same frames with their times, and the same reader behind them
+abbrev pub Alike : Run → Run → Type 0
+Alike p q = (p .told .frames ≡ q .told .frames) × (p .reader ≡ q .reader)
