@@ -26,9 +26,17 @@
 #include <stddef.h>
 #include <stdint.h>
 
+#if defined(UINTPTR_MAX) && UINTPTR_MAX < 0xffffffffffffffff
+#error "lift.h: the library is for machines with pointers of 64 bits"
+#endif
+
 #ifdef __cplusplus
 extern "C" {
 #endif
+
+/* The version of this interface. It grows when a call, a size or the meaning of a number changes; a new name alone does not
+ * count. The header and the archive of one release belong together. */
+#define LIFT_VERSION 1u
 
 /* The least bytes of mem and of out; with less a call answers LIFT_REFUSED with 7. */
 #define LIFT_MEM_BYTES 16384u
@@ -81,22 +89,51 @@ uint32_t lift_receive(lift_table *t, uint64_t time, const uint8_t *frame, size_t
 static inline uint32_t lift_kind(uint32_t answer) { return answer >> 16; }
 static inline uint32_t lift_number(uint32_t answer) { return answer & 0xffffu; }
 
-/* The reasons of a refusal.
- *
- *    1  the bytes end before a needed field
- *    2  the leading bits are not this header's: not 6LoWPAN, or a dispatch that is not taken here
- *    3  a reserved or unsupported mode or version
- *    4  a length that is not allowed: a frame of over 127 bytes
- *    5  an address context that is not in the list
- *    6  a needed link-layer address is absent
- *    7  mem or out is too small
- *    8  the time is earlier than the last one taken
- *    9  the source is not a gateway of the table
- *   10  a part that no datagram can have
- *   11  a part that clashes with bytes already taken; its slot is freed
- *   12  no slot may be opened for this gateway now
- *   13  secured, not a Data frame, or with an extension header that would have to be expanded
- *   14  a bad list of gateways (lift_begin only) */
+/* The reasons of a refusal: the product's numbers, each with its name. docs/REFUSALS.md says what usually causes each and what
+ * to do. lift_receive gives 1 to 13, lift_begin 14; the others belong to calls that are not in this header. */
+enum lift_refusal {
+  LIFT_ENDED = 1,           /* the bytes end before a needed field */
+  LIFT_NOT_THIS_HEADER = 2, /* the leading bits are not this header's: not 6LoWPAN, or a dispatch that is not taken here */
+  LIFT_UNSUPPORTED = 3,     /* a reserved or unsupported mode or version */
+  LIFT_BAD_LENGTH = 4,      /* a length that is not allowed: a frame of over 127 bytes */
+  LIFT_NO_CONTEXT = 5,      /* an address context that is not in the list */
+  LIFT_NO_ADDRESS = 6,      /* a needed link-layer address is absent */
+  LIFT_NO_ROOM = 7,         /* mem or out is too small */
+  LIFT_EARLIER_TIME = 8,    /* the time is earlier than the last one taken */
+  LIFT_NOT_GATEWAY = 9,     /* the source is not a gateway of the table */
+  LIFT_BAD_PART = 10,       /* a part that no datagram can have */
+  LIFT_CLASH = 11,          /* a part that clashes with bytes already taken; its slot is freed */
+  LIFT_NO_SLOT = 12,        /* no slot may be opened for this gateway now */
+  LIFT_NOT_EXPANDED = 13,   /* secured, not a Data frame, or with an extension header that would have to be expanded */
+  LIFT_BAD_GATEWAYS = 14,   /* a bad list of gateways */
+  LIFT_BAD_BLOCK = 15,      /* a bad capture block */
+  LIFT_NOT_CUT = 16,        /* a datagram that is not cut into frames */
+  LIFT_NOT_HELD = 18        /* what no capture block can hold */
+};
+
+/* A few words on a refusal's number, for a log: never null, and "?" for a number that is none. */
+static inline const char *lift_reason(uint32_t number) {
+  switch (number) {
+    case LIFT_ENDED: return "the bytes end before a needed field";
+    case LIFT_NOT_THIS_HEADER: return "the leading bits are not this header's";
+    case LIFT_UNSUPPORTED: return "a reserved or unsupported mode or version";
+    case LIFT_BAD_LENGTH: return "a length that is not allowed";
+    case LIFT_NO_CONTEXT: return "the address context is not in the list";
+    case LIFT_NO_ADDRESS: return "a needed link-layer address is absent";
+    case LIFT_NO_ROOM: return "the lent room is too small";
+    case LIFT_EARLIER_TIME: return "the time is earlier than the last one taken";
+    case LIFT_NOT_GATEWAY: return "the source is not a gateway of the table";
+    case LIFT_BAD_PART: return "a part that no datagram can have";
+    case LIFT_CLASH: return "the part clashes with bytes taken";
+    case LIFT_NO_SLOT: return "no slot may be opened";
+    case LIFT_NOT_EXPANDED: return "secured, not a Data frame, or an extension header";
+    case LIFT_BAD_GATEWAYS: return "the list of gateways is bad";
+    case LIFT_BAD_BLOCK: return "a bad capture block";
+    case LIFT_NOT_CUT: return "a datagram that is not cut into frames";
+    case LIFT_NOT_HELD: return "what no capture block can hold";
+    default: return "?";
+  }
+}
 
 /* How many of the eight slots are free. Slots that have grown old count as held until a call of lift_receive frees them. */
 size_t lift_free(const lift_table *t);
@@ -108,10 +145,11 @@ size_t lift_held(const lift_table *t, uint64_t kind, uint64_t value);
 }
 #endif
 
+/* In C99 as in C++, a size that is not so is an array of -1 elements here, and the compiler stops. */
+typedef char lift_table_has_1096_bytes[sizeof(lift_table) == 1096 ? 1 : -1];
+typedef char lift_is_for_64_bits[sizeof(size_t) == 8 && sizeof(void *) == 8 ? 1 : -1];
 #if defined(__STDC_VERSION__) && __STDC_VERSION__ >= 201112L
-_Static_assert(sizeof(lift_table) == 1096, "a table has 1,096 bytes");
 _Static_assert(_Alignof(lift_table) == 8, "a table is aligned to 8");
-_Static_assert(sizeof(size_t) == 8, "the library is for 64-bit machines");
 #endif
 
 #endif

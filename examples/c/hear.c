@@ -30,6 +30,10 @@ int main(int argc, char **argv) {
   while (fread(block, 1, sizeof block, file) == sizeof block) {
     for (unsigned k = 0; k < block[4] && k < 3; k++) {
       const uint8_t *place = block + 6 + 132 * k;
+      if (place[4] > 127) {
+        fprintf(stderr, "hear: no capture: a frame of %u bytes\n", place[4]);
+        return 1;
+      }
       uint64_t time = place[0] | place[1] << 8 | place[2] << 16 | (uint64_t)place[3] << 24;
       uint32_t answer = lift_receive(&table, time, place + 5, place[4], no_contexts, 0, mem, sizeof mem, out, sizeof out);
       n++;
@@ -41,7 +45,7 @@ int main(int argc, char **argv) {
           printf("%u out %u\n", n, (unsigned)lift_number(answer));
           break;
         default:
-          printf("%u no %u\n", n, (unsigned)lift_number(answer));
+          printf("%u no %u\n", n, (unsigned)lift_number(answer)); /* lift_reason has words for it */
       }
     }
   }
