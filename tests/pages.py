@@ -2,7 +2,7 @@
 """pages.py: what people meet first is as it says it is.
 
 The pictures are as drawn; the paths that the pages name are there; the numbers and names of refusals agree between
-docs/REFUSALS.md, include/lift.h and the crate octets; the groups of docs/ARCHITECTURE.md are those of crates.txt; the
+docs/REFUSALS.md, include/lift.h and the crate octets; the theorems of docs/PROMISES.md are there; the groups of docs/ARCHITECTURE.md are those of crates.txt; the
 example programs say what is wrong with their input in one line; `summary` says what was worked out by hand; lift.h
 refuses machines with short pointers. What wants a compiler or `heard` is skipped where that is missing.
 """
@@ -59,6 +59,15 @@ def refusals():
         expect(re.search(rf"\b{shout} = {number}\b", header), f"lift.h: {shout} = {number}")
         expect(f"case {shout}: return" in header, f"lift_reason: {shout}")
         expect(f"| {number} | `{shout}` |" in page, f"REFUSALS.md: {number} is {shout}")
+
+
+def theorems():
+    """A theorem that docs/PROMISES.md names (words joined by hyphens) stands in a proof or definition."""
+    known = set()
+    for file in TOP.glob("crates/*/*/**/*.antt"):
+        known.update(re.findall(r"[^\s(){},;:.«»]+", file.read_text()))
+    for name in re.findall(r"`([a-z0-9→]+(?:-[a-z0-9→]+)+)`", (TOP / "docs/PROMISES.md").read_text()):
+        expect(name in known, f"PROMISES.md names the theorem {name}")
 
 
 def groups():
@@ -168,7 +177,7 @@ def c_face(folder):
 
 
 def main():
-    for test in (pictures, paths, refusals, groups, summaries, make_capture):
+    for test in (pictures, paths, refusals, theorems, summaries, make_capture):
         test()
     if HEARD.exists():
         heard()
