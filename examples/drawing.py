@@ -8,8 +8,10 @@ PALE = ["#d6e6f3", "#f6ddd2", "#dfead6", "#e5dcf0"]
 STRANGE, STRANGE_PALE = "#777777", "#e6e6e6"               # for whoever is no gateway
 
 
-def text(x, y, words, size=13, anchor="start", colour=INK, weight="normal", mono=False):
+def text(x, y, words, size=13, anchor="start", colour=INK, weight="normal", mono=False, down=False):
+    """Words at a place; `down`, they run from top to bottom."""
     family = ' font-family="monospace"' if mono else ""
+    family += f' transform="rotate(90 {x:.1f} {y:.1f})"' if down else ""
     return (f'<text x="{x:.1f}" y="{y:.1f}" font-size="{size}" text-anchor="{anchor}" fill="{colour}" '
             f'font-weight="{weight}"{family}>{escape(words)}</text>')
 
