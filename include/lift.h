@@ -42,6 +42,10 @@ extern "C" {
 #define LIFT_MEM_BYTES 16384u
 #define LIFT_OUT_BYTES 2047u
 
+/* A length. It crosses as 64 bits on every machine, 32-bit ones too, since that is the length of which the proofs speak; on 64-bit
+ * machines it is size_t. A pointer is as wide as the machine's. */
+typedef uint64_t lift_len;
+
 /* A table: eight slots, the last time taken, and at most four gateways. 1,096 bytes, aligned to 8. What the words hold is
  * not part of this interface. examples/c/layout.c checks the size and the alignment at run time against the library itself. */
 typedef struct lift_table {
@@ -61,7 +65,7 @@ typedef struct lift_table {
  * Answers 0; or 14, and leaves *t as it was, where the list has more than four gateways, two equal ones, or something that
  * is no address: another kind, a short address of 65,536 or more, or a kind without a value.
  * A table that has begun may begin again; the parts that it held are then forgotten. */
-uint32_t lift_begin(lift_table *t, const uint64_t *gateways, size_t numbers);
+uint32_t lift_begin(lift_table *t, const uint64_t *gateways, lift_len numbers);
 
 /* Hands the table a frame that was heard.
  *
@@ -79,8 +83,8 @@ uint32_t lift_begin(lift_table *t, const uint64_t *gateways, size_t numbers);
  *   LIFT_REFUSED  R    the frame is refused for reason R, below. mem and out are as they were, to the last byte.
  *
  * A refusal other than 7 and 8 takes the time too, and frees slots that are 60,000 ms old or older; 11 frees its slot. */
-uint32_t lift_receive(lift_table *t, uint64_t time, const uint8_t *frame, size_t frame_len, const uint8_t *contexts,
-                      size_t contexts_len, uint8_t *mem, size_t mem_len, uint8_t *out, size_t out_len);
+uint32_t lift_receive(lift_table *t, uint64_t time, const uint8_t *frame, lift_len frame_len, const uint8_t *contexts,
+                      lift_len contexts_len, uint8_t *mem, lift_len mem_len, uint8_t *out, lift_len out_len);
 
 #define LIFT_KEPT 0u
 #define LIFT_OUT 1u
@@ -136,10 +140,10 @@ static inline const char *lift_reason(uint32_t number) {
 }
 
 /* How many of the eight slots are free. Slots that have grown old count as held until a call of lift_receive frees them. */
-size_t lift_free(const lift_table *t);
+lift_len lift_free(const lift_table *t);
 
 /* How many slots the gateway of this kind and value holds, 0 to 3; 0 for anything that is no gateway. */
-size_t lift_held(const lift_table *t, uint64_t kind, uint64_t value);
+lift_len lift_held(const lift_table *t, uint64_t kind, uint64_t value);
 
 #ifdef __cplusplus
 }
@@ -147,7 +151,7 @@ size_t lift_held(const lift_table *t, uint64_t kind, uint64_t value);
 
 /* In C99 as in C++, a size that is not so is an array of -1 elements here, and the compiler stops. */
 typedef char lift_table_has_1096_bytes[sizeof(lift_table) == 1096 ? 1 : -1];
-typedef char lift_is_for_64_bits[sizeof(size_t) == 8 && sizeof(void *) == 8 ? 1 : -1];
+typedef char lift_len_has_8_bytes[sizeof(lift_len) == 8 ? 1 : -1];
 #if defined(__STDC_VERSION__) && __STDC_VERSION__ >= 201112L
 _Static_assert(_Alignof(lift_table) == 8, "a table is aligned to 8");
 #endif
