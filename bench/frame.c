@@ -71,7 +71,9 @@ static void read_gateways(char *rest, struct gateways *g) {
   g->numbers = 0;
   for (char *one = strtok(rest, " "); one != NULL; one = strtok(NULL, " ")) {
     if (g->numbers == 32) fail("too many gateways", "lines");
-    g->of[g->numbers++] = *one == 's' ? 1 : *one == 'e' ? 2 : 0;
+    char *pan = strchr(one, '@');
+    uint64_t in = pan == NULL ? 0 : strtoull(pan + 1, NULL, 16) + 1;
+    g->of[g->numbers++] = (*one == 's' ? 1 : *one == 'e' ? 2 : 0) | in << 16;
     g->of[g->numbers++] = strtoull(one + 1, NULL, 16);
   }
 }

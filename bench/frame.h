@@ -20,7 +20,8 @@ static const uint8_t *take(struct rest *r, size_t n) {
 // The MAC header.
 
 struct mac {
-  struct address src, dst;
+  struct source src;
+  struct address dst;
 };
 
 // An address of a mode, least significant byte first.
@@ -55,10 +56,12 @@ static void pans(unsigned version, unsigned dst, unsigned src, bool compressed, 
 static bool read_addressing(struct rest *r, unsigned version, unsigned dst, unsigned src, bool compressed, struct mac *m) {
   bool dst_pan, src_pan;
   pans(version, dst, src, compressed, &dst_pan, &src_pan);
-  if (dst_pan && take(r, 2) == NULL) return false;
+  const uint8_t *pan = NULL; // the source's where there is one, else the destination's
+  if (dst_pan && (pan = take(r, 2)) == NULL) return false;
   if (!read_address(r, dst, &m->dst)) return false;
-  if (src_pan && take(r, 2) == NULL) return false;
-  return read_address(r, src, &m->src);
+  if (src_pan && (pan = take(r, 2)) == NULL) return false;
+  m->src.pan = pan == NULL ? 0 : 1u + pan[0] + 256u * pan[1];
+  return read_address(r, src, &m->src.address);
 }
 
 // The auxiliary security header: a control byte, the counter unless it is suppressed, the key identifier.
@@ -181,7 +184,7 @@ static uint64_t read_iphc(struct rest *r, const struct mac *m, const struct cont
   if (sac && sam == 0) {
     memset(ip + 8, 0, 16);
   } else {
-    uint64_t no = read_unicast(r, sac, sam, identifiers >> 4, c, &m->src, ip + 8);
+    uint64_t no = read_unicast(r, sac, sam, identifiers >> 4, c, &m->src.address, ip + 8);
     if (no != 0) return no;
   }
   if (dac && (many || dam == 0)) return BAD_MODE;
@@ -297,12 +300,12 @@ static uint64_t begin(void *table, const uint64_t *gateways, size_t numbers) {
   size_t count = numbers / 2;
   if (count > 4) return BAD_GATEWAYS;
   for (size_t i = 0; i < count; i++) {
-    if (gateways[2 * i] == 0) return BAD_GATEWAYS;
+    if ((gateways[2 * i] & 0xffff) == 0) return BAD_GATEWAYS;
     for (size_t j = 0; j < i; j++)
       if (gateways[2 * i] == gateways[2 * j] && gateways[2 * i + 1] == gateways[2 * j + 1]) return BAD_GATEWAYS;
   }
   memset(t, 0, sizeof *t);
-  for (size_t i = 0; i < count; i++) t->gateways[i] = (struct address){(uint8_t)gateways[2 * i], gateways[2 * i + 1]};
+  for (size_t i = 0; i < count; i++) t->gateways[i] = (struct source){{(uint8_t)gateways[2 * i], gateways[2 * i + 1]}, (uint32_t)(gateways[2 * i] >> 16)};
   return 0;
 }
 

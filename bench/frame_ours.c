@@ -7,7 +7,7 @@
 uint64_t bench_frames(const struct slice *gateways, const struct slice *first, const struct slice *lap, uint64_t laps, const struct slice *bytes,
                       const struct slice *mem, const struct slice *out);
 
-static uint64_t begin(void *table, const uint64_t *gateways, size_t numbers) { return lift_begin(table, gateways, numbers); }
+static uint64_t begin(void *table, const uint64_t *gateways, size_t numbers) { return lift_begin_flat(table, gateways, numbers); }
 
 static uint64_t receive_at(void *table, uint64_t time, const struct frame_call *c, const struct lent *l) {
   uint32_t a = lift_receive(table, time, c->frame.at, c->frame.size, c->contexts.at, c->contexts.size, l->mem.at, l->mem.size, l->out.at, l->out.size);

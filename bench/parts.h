@@ -4,7 +4,7 @@
 static uint64_t receive_at(struct table *t, uint64_t time, const struct call *c, const struct lent *l) {
   uint64_t early = take_time(t, time, l);
   if (early != 0) return early;
-  struct key key = {.src = {1, c->src}, .dst = {1, c->dst}, .size = c->size, .tag = c->tag};
+  struct key key = {.src = {{1, c->src}, 0}, .dst = {1, c->dst}, .size = c->size, .tag = c->tag};
   if (!is_gateway(t, &key.src)) return NOT_GATEWAY;
   return take_part(t, time, &key, c, l);
 }

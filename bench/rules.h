@@ -8,8 +8,15 @@ struct address {
   uint64_t number;
 };
 
+// Who sends: an address and its PAN, 0 where there is none, else one more than the PAN.
+struct source {
+  struct address address;
+  uint32_t pan;
+};
+
 struct key {
-  struct address src, dst;
+  struct source src;
+  struct address dst;
   uint16_t size, tag;
 };
 
@@ -25,25 +32,29 @@ struct slot {
 struct table {
   struct slot slots[8];
   uint64_t last;
-  struct address gateways[4];
+  struct source gateways[4];
 };
 
 static bool same_address(const struct address *a, const struct address *b) {
   return a->kind == b->kind && a->number == b->number;
 }
 
+static bool same_source(const struct source *a, const struct source *b) {
+  return same_address(&a->address, &b->address) && a->pan == b->pan;
+}
+
 static bool same_key(const struct key *a, const struct key *b) {
-  return same_address(&a->src, &b->src) && same_address(&a->dst, &b->dst) && a->size == b->size && a->tag == b->tag;
+  return same_source(&a->src, &b->src) && same_address(&a->dst, &b->dst) && a->size == b->size && a->tag == b->tag;
 }
 
 static void free_slot(struct slot *s) { memset(s, 0, sizeof *s); }
 
 // The opening rule.
 
-static size_t held(const struct table *t, const struct address *gateway) {
+static size_t held(const struct table *t, const struct source *gateway) {
   size_t n = 0;
   for (size_t i = 0; i < 8; i++)
-    if (t->slots[i].live && same_address(&t->slots[i].key.src, gateway)) n++;
+    if (t->slots[i].live && same_source(&t->slots[i].key.src, gateway)) n++;
   return n;
 }
 
@@ -60,17 +71,17 @@ static size_t lowest_free(const struct table *t) {
   return 8;
 }
 
-static size_t idle_others(const struct table *t, const struct address *gateway) {
+static size_t idle_others(const struct table *t, const struct source *gateway) {
   size_t n = 0;
   for (size_t i = 0; i < 4; i++) {
-    const struct address *other = &t->gateways[i];
-    if (other->kind != 0 && !same_address(other, gateway) && held(t, other) == 0) n++;
+    const struct source *other = &t->gateways[i];
+    if (other->address.kind != 0 && !same_source(other, gateway) && held(t, other) == 0) n++;
   }
   return n;
 }
 
 // The slot that a gateway may open, or 8.
-static size_t to_open(const struct table *t, const struct address *gateway) {
+static size_t to_open(const struct table *t, const struct source *gateway) {
   size_t own = held(t, gateway);
   if (own == 0) return lowest_free(t);
   if (own < 3 && idle_others(t, gateway) < free_slots(t)) return lowest_free(t);
@@ -130,9 +141,9 @@ static uint64_t offer(struct slot *s, uint8_t *room, const struct call *c, uint8
   return place(s, room, c, out);
 }
 
-static bool is_gateway(const struct table *t, const struct address *a) {
+static bool is_gateway(const struct table *t, const struct source *a) {
   for (size_t i = 0; i < 4; i++)
-    if (t->gateways[i].kind != 0 && same_address(&t->gateways[i], a)) return true;
+    if (t->gateways[i].address.kind != 0 && same_source(&t->gateways[i], a)) return true;
   return false;
 }
 

@@ -26,17 +26,13 @@
 #include <stddef.h>
 #include <stdint.h>
 
-#if defined(UINTPTR_MAX) && UINTPTR_MAX < 0xffffffffffffffff
-#error "lift.h: the library is for machines with pointers of 64 bits"
-#endif
-
 #ifdef __cplusplus
 extern "C" {
 #endif
 
 /* The version of this interface. It grows when a call, a size or the meaning of a number changes; a new name alone does not
  * count. The header and the archive of one release belong together. */
-#define LIFT_VERSION 1u
+#define LIFT_VERSION 2u
 
 /* The least bytes of mem and of out; with less a call answers LIFT_REFUSED with 7. */
 #define LIFT_MEM_BYTES 16384u
@@ -46,26 +42,41 @@ extern "C" {
  * machines it is size_t. A pointer is as wide as the machine's. */
 typedef uint64_t lift_len;
 
-/* A table: eight slots, the last time taken, and at most four gateways. 1,096 bytes, aligned to 8. What the words hold is
+/* A table: eight slots, the last time taken, and at most four gateways. 1,192 bytes, aligned to 8. What the words hold is
  * not part of this interface. examples/c/layout.c checks the size and the alignment at run time against the library itself. */
 typedef struct lift_table {
-  uint64_t words[137];
+  uint64_t words[149];
 } lift_table;
 
-/* An address in a list of gateways, and for lift_held, is two numbers: its kind, then its value, the byte that the standard
- * writes first being the highest. 0x0001 is the short address 0001, 0x0011223344556677 the extended 00:11:22:33:44:55:66:77. */
+/* A gateway: the kind of its address, with its PAN, and the address, the byte that the standard writes first being the highest.
+ * 0x0001 is the short address 0001, 0x0011223344556677 the extended 00:11:22:33:44:55:66:77.
+ *
+ *   {LIFT_IN(LIFT_SHORT, 0xabcd), 0x0001}       short 0001 in PAN abcd
+ *   {LIFT_SHORT, 0x0001}                        short 0001 with no PAN: "none" is a value of its own, and stands for no other
+ *
+ * A frame's sender is known by its address and PAN: the source PAN if the frame carries one, else the destination PAN, else none.
+ * Version 1 of this interface had no PANs: a caller of it writes LIFT_IN(kind, pan) where it wrote the kind, and hands lift_begin
+ * gateways and their count where it handed numbers. */
+typedef struct lift_gateway {
+  uint64_t kind;
+  uint64_t value;
+} lift_gateway;
+
 #define LIFT_SHORT 1u    /* a short address, below 65,536 */
 #define LIFT_EXTENDED 2u /* an extended address */
+#define LIFT_IN(kind, pan) ((uint64_t)(kind) | ((uint64_t)(pan) + 1u) << 16)
 
-/* Makes *t a table of these gateways, with eight free slots and the last time 0.
+/* The call behind lift_begin, as the library exports it: `numbers` counts two for each gateway. */
+uint32_t lift_begin_flat(lift_table *t, const uint64_t *gateways, lift_len numbers);
+
+/* Makes *t a table of `count` gateways, with eight free slots and the last time 0.
  *
- *   gateways  two numbers for each gateway, kind and value, one gateway after the other
- *   numbers   how many numbers that is: twice the number of gateways, 0 to 8
- *
- * Answers 0; or 14, and leaves *t as it was, where the list has more than four gateways, two equal ones, or something that
- * is no address: another kind, a short address of 65,536 or more, or a kind without a value.
+ * Answers 0; or 14, and leaves *t as it was, where the list has more than four gateways, two with one address and PAN, or something
+ * that is no gateway: another kind, a short address of 65,536 or more, a PAN over ffff.
  * A table that has begun may begin again; the parts that it held are then forgotten. */
-uint32_t lift_begin(lift_table *t, const uint64_t *gateways, lift_len numbers);
+static inline uint32_t lift_begin(lift_table *t, const lift_gateway *gateways, lift_len count) {
+  return lift_begin_flat(t, &gateways->kind, 2u * count);
+}
 
 /* Hands the table a frame that was heard.
  *
@@ -104,7 +115,7 @@ enum lift_refusal {
   LIFT_NO_ADDRESS = 6,      /* a needed link-layer address is absent */
   LIFT_NO_ROOM = 7,         /* mem or out is too small */
   LIFT_EARLIER_TIME = 8,    /* the time is earlier than the last one taken */
-  LIFT_NOT_GATEWAY = 9,     /* the source is not a gateway of the table */
+  LIFT_NOT_GATEWAY = 9,     /* the source with its PAN is not a gateway of the table */
   LIFT_BAD_PART = 10,       /* a part that no datagram can have */
   LIFT_CLASH = 11,          /* a part that clashes with bytes already taken; its slot is freed */
   LIFT_NO_SLOT = 12,        /* no slot may be opened for this gateway now */
@@ -126,7 +137,7 @@ static inline const char *lift_reason(uint32_t number) {
     case LIFT_NO_ADDRESS: return "a needed link-layer address is absent";
     case LIFT_NO_ROOM: return "the lent room is too small";
     case LIFT_EARLIER_TIME: return "the time is earlier than the last one taken";
-    case LIFT_NOT_GATEWAY: return "the source is not a gateway of the table";
+    case LIFT_NOT_GATEWAY: return "the source with its PAN is not a gateway of the table";
     case LIFT_BAD_PART: return "a part that no datagram can have";
     case LIFT_CLASH: return "the part clashes with bytes taken";
     case LIFT_NO_SLOT: return "no slot may be opened";
@@ -142,7 +153,7 @@ static inline const char *lift_reason(uint32_t number) {
 /* How many of the eight slots are free. Slots that have grown old count as held until a call of lift_receive frees them. */
 lift_len lift_free(const lift_table *t);
 
-/* How many slots the gateway of this kind and value holds, 0 to 3; 0 for anything that is no gateway. */
+/* How many slots the gateway of this kind, with its PAN, and value holds, 0 to 3; 0 for anything that is no gateway. */
 lift_len lift_held(const lift_table *t, uint64_t kind, uint64_t value);
 
 #ifdef __cplusplus
@@ -150,7 +161,8 @@ lift_len lift_held(const lift_table *t, uint64_t kind, uint64_t value);
 #endif
 
 /* In C99 as in C++, a size that is not so is an array of -1 elements here, and the compiler stops. */
-typedef char lift_table_has_1096_bytes[sizeof(lift_table) == 1096 ? 1 : -1];
+typedef char lift_table_has_1192_bytes[sizeof(lift_table) == 1192 ? 1 : -1];
+typedef char lift_gateway_has_16_bytes[sizeof(lift_gateway) == 16 ? 1 : -1];
 typedef char lift_len_has_8_bytes[sizeof(lift_len) == 8 ? 1 : -1];
 #if defined(__STDC_VERSION__) && __STDC_VERSION__ >= 201112L
 _Static_assert(_Alignof(lift_table) == 8, "a table is aligned to 8");

@@ -64,7 +64,7 @@ static void begin(FILE *file) {
   memset(&table, 0, sizeof table);
   memset(&lent, 0, sizeof lent);
   PAINT();
-  uint32_t answer = lift_begin(&table, numbers, n);
+  uint32_t answer = lift_begin_flat(&table, numbers, n);
   DEPTH(begin_stack);
   gateways = answer ? 0 : n / 2;
   printf("%u\n", (unsigned)answer);

@@ -26,10 +26,12 @@ KINDS = {"a": 0, "s": 1, "e": 2}
 
 
 def gateway_numbers(line):
-    """Two numbers for each address of a line `gateways ..`; an absent one is of kind 0."""
+    """Two numbers for each gateway of a line `gateways ..`: the kind of its address under one more than its PAN, and the
+    address; an absent one is of kind 0."""
     out = []
     for word in line.split()[1:]:
-        out += [KINDS[word[0]], int(word[1:] or "0", 16)]
+        address, _, pan = word.partition("@")
+        out += [KINDS[address[0]] | (int(pan, 16) + 1 if pan else 0) << 16, int(address[1:] or "0", 16)]
     return out
 
 

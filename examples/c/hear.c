@@ -1,18 +1,19 @@
 /* hear CAPTURE: puts together the datagrams of a capture (examples/README.md has its layout) and says what each frame came
- * to, a line for each, as the program `heard` does. The gateways are the short addresses 0001 to 0004.
+ * to, a line for each, as the program `heard` does. The gateways are the short addresses 0001 to 0004 in PAN abcd.
  *
  * This is an example: it takes a capture's blocks as they are, and does not look at their frame check. */
 #include "../../include/lift.h"
 
 #include <stdio.h>
 
-/* All that a receiver needs, with no heap: 1,096 bytes of table, zero at first, 16 KiB for parts, and room for a datagram. */
+/* All that a receiver needs, with no heap: 1,192 bytes of table, zero at first, 16 KiB for parts, and room for a datagram. */
 static lift_table table;
 static uint8_t mem[LIFT_MEM_BYTES];
 static uint8_t out[LIFT_OUT_BYTES];
 static const uint8_t no_contexts[1];
 
-static const uint64_t gateways[] = {LIFT_SHORT, 0x0001, LIFT_SHORT, 0x0002, LIFT_SHORT, 0x0003, LIFT_SHORT, 0x0004};
+#define IN_ABCD LIFT_IN(LIFT_SHORT, 0xabcd)
+static const lift_gateway gateways[] = {{IN_ABCD, 0x0001}, {IN_ABCD, 0x0002}, {IN_ABCD, 0x0003}, {IN_ABCD, 0x0004}};
 
 int main(int argc, char **argv) {
   FILE *file = argc == 2 ? fopen(argv[1], "rb") : NULL;

@@ -13,7 +13,10 @@ struct Radio {
 
 static RADIO: Mutex<Radio> = Mutex::new(Radio { table: Table::new(), out: [0; OUT_BYTES] });
 
-const GATEWAYS: [Gateway; 4] = [Gateway::short(1), Gateway::short(2), Gateway::short(3), Gateway::short(4)];
+const fn listed(address: u16) -> Gateway {
+    Gateway::short(address).in_pan(0xabcd)
+}
+const GATEWAYS: [Gateway; 4] = [listed(1), listed(2), listed(3), listed(4)];
 
 fn hear(radio: &mut Radio, n: u32, time: u32, frame: &[u8]) {
     match radio.table.receive(time.into(), frame, &[], &mut radio.out) {

@@ -15,9 +15,9 @@
 //! ```
 //! use lift::{Gateway, OUT_BYTES, Outcome, Table};
 //!
-//! let mut table = Table::new(); // 17,480 bytes of zeros; as a `static` it is in .bss
+//! let mut table = Table::new(); // 17,576 bytes of zeros; as a `static` it is in .bss
 //! let mut out = [0; OUT_BYTES];
-//! table.begin(&[Gateway::short(1), Gateway::extended(0x0011_2233_4455_6677)])?;
+//! table.begin(&[Gateway::short(1).in_pan(0xabcd), Gateway::extended(0x0011_2233_4455_6677)])?;
 //! let frame = [0x41, 0x88, 5, 0xcd, 0xab, 0xff, 0xff, 1, 0, 0x7a, 0x33, 0x3a, 1, 2, 3, 4];
 //! match table.receive(1_000, &frame, &[], &mut out)? {
 //!     Outcome::Kept => unreachable!("it is whole"),
@@ -50,7 +50,7 @@ pub type Context = [u8; 8];
 // SAFETY: these are include/lift.h's declarations; the numbers, `&` and `&mut` are as the archive has them, and a pointer
 // with a length beside it is a slice in two halves. The two that take no pointer can be called with anything.
 unsafe extern "C" {
-    fn lift_begin(t: &mut Raw, gateways: *const Gateway, numbers: usize) -> u32;
+    fn lift_begin_flat(t: &mut Raw, gateways: *const Gateway, numbers: usize) -> u32;
     #[rustfmt::skip]
     fn lift_receive(t: &mut Raw, time: u64, frame: *const u8, frame_len: usize, contexts: *const u8, contexts_len: usize,
         mem: *mut u8, mem_len: usize, out: *mut u8, out_len: usize) -> u32;
@@ -62,10 +62,11 @@ unsafe extern "C" {
 #[repr(C)]
 #[derive(Clone)]
 struct Raw {
-    words: [u64; 137],
+    words: [u64; 149],
 }
 
-/// A sender that a table takes frames from, by its link-layer address.
+/// A sender that a table takes frames from, by its link-layer address and its PAN. `short` and `extended` make one with no
+/// PAN, which is a value of its own and stands for no other.
 #[repr(C)]
 #[derive(Clone, Copy, PartialEq, Eq, Debug)]
 pub struct Gateway {
@@ -85,6 +86,11 @@ impl Gateway {
     /// The extended address 00:11:22:33:44:55:66:77 is `extended(0x0011_2233_4455_6677)`.
     pub const fn extended(address: u64) -> Gateway {
         Gateway { kind: 2, value: address }
+    }
+
+    /// The same address in a PAN.
+    pub const fn in_pan(self, pan: u16) -> Gateway {
+        Gateway { kind: self.kind & 0xffff | (pan as u64 + 1) << 16, value: self.value }
     }
 }
 
@@ -186,7 +192,7 @@ pub struct Table {
 impl Table {
     /// A table of no gateways, all zero.
     pub const fn new() -> Table {
-        Table { raw: Raw { words: [0; 137] }, mem: [0; MEM_BYTES] }
+        Table { raw: Raw { words: [0; 149] }, mem: [0; MEM_BYTES] }
     }
 
     /// Begins, or begins again, with these gateways: eight free slots, and the last time 0. Refused
@@ -194,7 +200,7 @@ impl Table {
     pub fn begin(&mut self, gateways: &[Gateway]) -> Result<(), Refusal> {
         // SAFETY: a `Gateway` is its numbers one behind the other (`repr(C)`), so the slice is so many times as many
         // numbers; it is read while it is borrowed, and `&mut` keeps the table, zero at first and private, apart from it.
-        let answer = unsafe { lift_begin(&mut self.raw, gateways.as_ptr(), gateways.len() * Gateway::NUMBERS) };
+        let answer = unsafe { lift_begin_flat(&mut self.raw, gateways.as_ptr(), gateways.len() * Gateway::NUMBERS) };
         if answer == 0 { Ok(()) } else { Err(Refusal::from_number(answer as u16)) }
     }
 

@@ -9,7 +9,7 @@ fn example(name: &str) -> Vec<u8> {
 
 fn heards() -> Table {
     let mut table = Table::new();
-    table.begin(&[1, 2, 3, 4].map(Gateway::short)).expect("four gateways");
+    table.begin(&[1, 2, 3, 4].map(|n| Gateway::short(n).in_pan(0xabcd))).expect("four gateways");
     table
 }
 
@@ -56,7 +56,7 @@ const PART: [u8; 27] = [
 fn slots_and_times() {
     let (mut table, mut out) = (heards(), [0xa5; OUT_BYTES]);
     assert_eq!(table.receive(2000, &PART, &[], &mut out), Ok(Outcome::Kept));
-    assert_eq!((table.free(), table.held(Gateway::short(1)), table.held(Gateway::short(2))), (7, 1, 0));
+    assert_eq!((table.free(), table.held(Gateway::short(1).in_pan(0xabcd)), table.held(Gateway::short(1))), (7, 1, 0));
     assert_eq!(table.receive(1999, &PART, &[], &mut out), Err(Refusal::EarlierTime));
     assert_eq!(table.receive(62_000, &PART[..8], &[], &mut out), Err(Refusal::Ended));
     assert_eq!((table.free(), out), (8, [0xa5; OUT_BYTES]), "a slot is gone after 60,000 ms, and nothing was written");
@@ -68,6 +68,7 @@ fn refusals() {
     let mut out = [0; OUT_BYTES];
     assert_eq!(table.receive(0, &PART, &[], &mut out), Err(Refusal::NotGateway), "a table that has not begun");
     assert_eq!(table.begin(&[Gateway::short(1); 2]), Err(Refusal::BadGateways));
+    assert_eq!(table.begin(&[Gateway::short(1), Gateway::short(1).in_pan(0xabcd)]), Ok(()));
     assert_eq!(table.begin(&[1, 2, 3, 4, 5].map(Gateway::short)), Err(Refusal::BadGateways));
     assert_eq!(table.begin(&[]), Ok(()));
     let mut table = heards();

@@ -1,6 +1,6 @@
 // The receiver for C and Rust to link (include/lift.h): slices, numbers, and a table that the caller keeps.
 //
-// `lift_begin` makes a table of its gateways, `lift_receive` hands it a frame, `lift_free` and `lift_held` count its slots.
+// `lift_begin_flat` makes a table of its gateways, `lift_receive` hands it a frame, `lift_free` and `lift_held` count its slots.
 // What each number means is in specs/Face.antt; the answer, the table and every lent byte after a call are those of the slot
 // table's `step`, as for the by-value call `receiver::receive`. The table is changed in place, in three turns (specs/InPlace.antt):
 // `lift_receive` takes the time, `receive_timed` reads the frame, `take` brings its part to a slot.
@@ -253,7 +253,7 @@ fn held_by(table: Table, kind: u64, number: u64) -> usize
 // Makes a table of these gateways, two numbers each: 1 and a short address or 2 and an extended one, with a PAN 65,536 times
 // one more than its identifier added to the first. Answers 0, or 14.
 #[no_mangle]
-pub extern "C" fn lift_begin(t: &mut Table, gateways: &[u64]) -> u32
+pub extern "C" fn lift_begin_flat(t: &mut Table, gateways: &[u64]) -> u32
     ensures { λ r. ⌜ (r ≡ begun (now (gateways .entry))) × (now (t .exit) ≡ tableBegun (now (t .entry)) (now (gateways .entry))) ⌝ }
 {
     let r = begin(gateways);

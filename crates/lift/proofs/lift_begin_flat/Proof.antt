@@ -1,4 +1,4 @@
--- `lift::lift_begin` meets its contract: a walk of its MIR, by hand. The covered `begin` is called on the gateways. Where its answer is 0 the borrow of the table is opened, the answer's table is stored behind the reference, and the borrow is closed there; otherwise it stays closed. The arms meet, and `ends` is the code after them, over the table y that then lies there.
+-- `lift::lift_begin_flat` meets its contract: a walk of its MIR, by hand. The covered `begin` is called on the gateways. Where its answer is 0 the borrow of the table is opened, the answer's table is stored behind the reference, and the borrow is closed there; otherwise it stays closed. The arms meet, and `ends` is the code after them, over the table y that then lies there.
 -- The slice is Copy: one copy of what it owns goes to `begin`, the other is kept for the exit.
 -- Assumes nothing.
 use mathlib.Core.Path.{_≡_, refl, subst}
@@ -55,11 +55,11 @@ use Rattle.lift.proofs.begin as begin
 use Rattle.lift.proofs.begin.Symbol as begin-def
 use Rattle.lift.proofs.begin.Symbol.{name as #lift·begin}
 use Rattle.lift.proofs.begin.Met as begin-thm
-use Rattle.lift.proofs.lift_begin.Key.{name as #lift·lift-begin}
-use Rattle.lift.proofs.lift_begin as f
-use Rattle.lift.proofs.lift_begin.Statement as stated
-use Rattle.lift.proofs.lift_begin.Code as code
-use Rattle.lift.proofs.lift_begin.Code.Mir as mirs
+use Rattle.lift.proofs.lift_begin_flat.Key.{name as #lift·lift-begin-flat}
+use Rattle.lift.proofs.lift_begin_flat as f
+use Rattle.lift.proofs.lift_begin_flat.Statement as stated
+use Rattle.lift.proofs.lift_begin_flat.Code as code
+use Rattle.lift.proofs.lift_begin_flat.Code.Mir as mirs
 
 -- the machine values of a table
 abbrev low : Table → List Val
@@ -200,23 +200,23 @@ module _ {M : Type 1} (𝓤 : URA M) (H : Heap 𝓤) (A : Atoms 𝓤) (W : Given
         move ! (12 ∷ 13 ∷ 14 ∷ []) $ stores l₀ l₁ l₂ l₃ l₄ r _ is e)))))))))
 
 module _ {M : Type 1} (𝓤 : URA M) (H : Heap 𝓤) (A : Atoms 𝓤) (W : Given 𝓤 H A) (at-mem : Memory → SProp 𝓤) (run : Routine → Fun 𝓤) where
-  lift-begin-walks : (C : Calls 𝓤 H) (Λ : Loops 𝓤 H) → FmC 𝓤 H (W .laws) C → Triple 𝓤 (C #lift·begin) (Begin 𝓤 H A at-mem run) → Walks 𝓤 H A f.ended stayed (WpFn 𝓤 H C Λ code.function) (f.clauses 𝓤 H A at-mem run)
-  lift-begin-walks C Λ fm known = walked 𝓤 H A f.ended stayed (f.clauses 𝓤 H A at-mem run) (WpFn 𝓤 H C Λ code.function) (λ κs. (ptr-vals, (slice-vals, tt))) (λ κs. (mut-tells (named 0) (κs .0) T.the-row, (shr-slice-tells (named 1) (κs .1 .0) u64, tt)))
+  lift-begin-flat-walks : (C : Calls 𝓤 H) (Λ : Loops 𝓤 H) → FmC 𝓤 H (W .laws) C → Triple 𝓤 (C #lift·begin) (Begin 𝓤 H A at-mem run) → Walks 𝓤 H A f.ended stayed (WpFn 𝓤 H C Λ code.function) (f.clauses 𝓤 H A at-mem run)
+  lift-begin-flat-walks C Λ fm known = walked 𝓤 H A f.ended stayed (f.clauses 𝓤 H A at-mem run) (WpFn 𝓤 H C Λ code.function) (λ κs. (ptr-vals, (slice-vals, tt))) (λ κs. (mut-tells (named 0) (κs .0) T.the-row, (shr-slice-tells (named 1) (κs .1 .0) u64, tt)))
       (λ κs qs bounds a _ are. via 𝓤 _ (fst∗ 𝓤 _ (emp 𝓤)) (walk 𝓤 H A W at-mem run (κs .0) (κs .1 .0) (qs .0) (qs .1 .0) (a .0 .ptr .0) (a .0 .ptr .1) (a .0 .name) (a .0 .now) (a .1 .0) (are .1 .0 .0 .1) C Λ fm known))
 
   goes : AllGo 𝓤 H A W 2 (f.signature .params) (f.ended .kept) stayed
   goes = (goes-ref 𝓤 H A W 2 0 tt (plain (λ _. T.the-row)), (goes-none-slice 𝓤 H A W 2 (1 ∷ []) tt (plain (λ _. u64)) yes, tt))
 
-lift-begin-meets : {M : Type 1} (𝓤 : URA M) (H : Heap 𝓤) (A : Atoms 𝓤) (W : Given 𝓤 H A) (at-mem : Memory → SProp 𝓤) (run : Routine → Fun 𝓤) (𝓣 : Tables 𝓤 H)
+lift-begin-flat-meets : {M : Type 1} (𝓤 : URA M) (H : Heap 𝓤) (A : Atoms 𝓤) (W : Given 𝓤 H A) (at-mem : Memory → SProp 𝓤) (run : Routine → Fun 𝓤) (𝓣 : Tables 𝓤 H)
     → Triple 𝓤 (𝓣 .C #lift·begin) (Begin 𝓤 H A at-mem run)
     → Meets 𝓤 H A f.signature (WpFn 𝓤 H (𝓣 .C) (𝓣 .Λ) code.function) (f.spec 𝓤 H A at-mem run)
-lift-begin-meets 𝓤 H A W at-mem run 𝓣 known = walk-meets 𝓤 H A f.ended stayed W (goes 𝓤 H A W at-mem run) (f.clauses 𝓤 H A at-mem run) (WpFn 𝓤 H (𝓣 .C) (𝓣 .Λ) code.function) (WpFn-mono 𝓤 H (W .laws) 𝓣 code.function)
-    (lift-begin-walks 𝓤 H A W at-mem run (𝓣 .C) (𝓣 .Λ) (fmOf 𝓤 H (W .laws) 𝓣) known)
+lift-begin-flat-meets 𝓤 H A W at-mem run 𝓣 known = walk-meets 𝓤 H A f.ended stayed W (goes 𝓤 H A W at-mem run) (f.clauses 𝓤 H A at-mem run) (WpFn 𝓤 H (𝓣 .C) (𝓣 .Λ) code.function) (WpFn-mono 𝓤 H (W .laws) 𝓣 code.function)
+    (lift-begin-flat-walks 𝓤 H A W at-mem run (𝓣 .C) (𝓣 .Λ) (fmOf 𝓤 H (W .laws) 𝓣) known)
 
-pub lift-begin-spec : {M : Type 1} → stated.statement M
+pub lift-begin-flat-spec : {M : Type 1} → stated.statement M
 unfolding code.routine tablesOf
-lift-begin-spec 𝓤 H 𝓜 𝓖 𝓡 =
+lift-begin-flat-spec 𝓤 H 𝓜 𝓖 𝓡 =
     entered 𝓤 H (tripleOf 𝓤 H (𝓖 .A) f.signature (f.spec 𝓤 H (𝓖 .A) (𝓜 .mem) (𝓡 .run)))
-    (tables 𝓤 H 𝓜 𝓡 code.env .C) (tables 𝓤 H 𝓜 𝓡 code.env .Λ) #lift·lift-begin code.function (code.unfolded 𝓤 H 𝓜 𝓡)
-    (lift-begin-meets 𝓤 H (𝓖 .A) (givenOf 𝓤 H 𝓜 𝓖) (𝓜 .mem) (𝓡 .run) (tablesOf 𝓤 H 𝓜 (tables 𝓤 H 𝓜 𝓡 code.env))
+    (tables 𝓤 H 𝓜 𝓡 code.env .C) (tables 𝓤 H 𝓜 𝓡 code.env .Λ) #lift·lift-begin-flat code.function (code.unfolded 𝓤 H 𝓜 𝓡)
+    (lift-begin-flat-meets 𝓤 H (𝓖 .A) (givenOf 𝓤 H 𝓜 𝓖) (𝓜 .mem) (𝓡 .run) (tablesOf 𝓤 H 𝓜 (tables 𝓤 H 𝓜 𝓡 code.env))
     (cited 𝓤 H (Begin 𝓤 H (𝓖 .A) (𝓜 .mem) (𝓡 .run)) 𝓜 𝓡 code.env #lift·begin begin-def.routine code.calls-lift·begin (begin-thm.met 𝓤 H 𝓜 𝓖 𝓡)))
