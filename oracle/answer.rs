@@ -31,7 +31,7 @@ pub fn silence_panics() {
 /// Answers command lines. It keeps its buffers from one line to the next.
 #[derive(Default)]
 pub struct Answerer {
-    /// Whether the two listed differences are answered as 01 wants.
+    /// Whether the listed differences are answered as 01 and 02 want.
     as_01: bool,
     input: Vec<u8>,
     flat: Vec<u8>,
@@ -214,7 +214,16 @@ impl Answerer {
         self.contexts.extend(self.flat.chunks_exact(8).map(|c| AddressContext(c.try_into().unwrap())));
         let rust = call(|| iphc::Repr::parse(&self.input, src, dst, &self.contexts));
         let rule = rules::iphc(&self.input, src, dst, self.contexts.len());
-        measured(rust, rule, out, show_iphc);
+        let whole = rules::label(&self.input);
+        let as_01 = self.as_01;
+        measured(rust, rule, out, |repr, out| {
+            let label = repr.flow_label.map(u32::from);
+            // What the Rust keeps of a label is its low 16 bits.
+            if label != whole.map(|l| l & 0xffff) {
+                out.extend_from_slice(b" ?");
+            }
+            show_iphc(repr, if as_01 { whole } else { label }, out);
+        });
         Some(())
     }
 
@@ -228,7 +237,7 @@ impl Answerer {
             hop_limit: f.byte()?,
             ecn: f.maybe_byte()?,
             dscp: f.maybe_byte()?,
-            flow_label: f.maybe_word()?,
+            flow_label: f.maybe_label()?,
             ll_src_addr: f.link()?,
             ll_dst_addr: f.link()?,
         };
@@ -321,14 +330,14 @@ fn show_mac((repr, len): (ieee802154::Repr, usize), out: &mut Vec<u8>) {
     out.link(repr.src_addr);
 }
 
-fn show_iphc(repr: iphc::Repr, out: &mut Vec<u8>) {
+fn show_iphc(repr: iphc::Repr, label: Option<u32>, out: &mut Vec<u8>) {
     out.bytes(&repr.src_addr.octets());
     out.bytes(&repr.dst_addr.octets());
     out.next_header(repr.next_header);
     out.bytes(&[repr.hop_limit]);
     out.maybe(repr.ecn.map(|n| [n]));
     out.maybe(repr.dscp.map(|n| [n]));
-    out.maybe(repr.flow_label.map(u16::to_be_bytes));
+    out.maybe_label(label);
     out.link(repr.ll_src_addr);
     out.link(repr.ll_dst_addr);
 }

@@ -3,7 +3,7 @@
 use std::fs::File;
 use std::io::{self, BufRead, BufReader};
 
-use crate::oracle::answer::{listed, mac_01};
+use crate::oracle::answer::{Answerer, listed, mac_01};
 use crate::oracle::rules::{self, Listed};
 use crate::oracle::text::Fields;
 
@@ -48,22 +48,49 @@ struct Counts {
     agreed: usize,
     both_absent: usize,
     source_only: usize,
+    label: usize,
     differences: usize,
 }
 
-/// The answer that document 01 wants where it decides against the Rust.
-pub fn wanted(line: &[u8], frame: &mut Vec<u8>) -> Option<(Listed, Vec<u8>)> {
-    if !line.starts_with(b"mac.parse ") {
-        return None;
+/// Knows where 01 or 02 decides against the Rust.
+pub struct Judge {
+    bytes: Vec<u8>,
+    as_01: Answerer,
+}
+
+impl Judge {
+    pub fn new() -> Self {
+        Judge { bytes: Vec::new(), as_01: Answerer::new(true) }
     }
-    let mut fields = Fields::of(line);
-    fields.next()?;
-    fields.bytes_into(frame)?;
-    fields.end()?;
-    let case = listed(frame)?;
-    let mut answer = Vec::new();
-    mac_01(rules::mac(frame), &mut answer);
-    Some((case, answer))
+
+    /// The answer that is wanted where it is not the Rust's.
+    pub fn wanted(&mut self, line: &[u8]) -> Option<(Listed, Vec<u8>)> {
+        let mut fields = Fields::of(line);
+        let command = fields.next()?;
+        let mut answer = Vec::new();
+        if command == b"mac.parse" {
+            fields.bytes_into(&mut self.bytes)?;
+            fields.end()?;
+            let case = listed(&self.bytes)?;
+            mac_01(rules::mac(&self.bytes), &mut answer);
+            return Some((case, answer));
+        }
+        if command != b"iphc.parse" {
+            return None;
+        }
+        // By TF: a label whose top four bits are not 0.
+        fields.bytes_into(&mut self.bytes)?;
+        rules::label(&self.bytes).filter(|label| *label > 0xffff)?;
+        self.as_01.answer(line, &mut answer);
+        answer.starts_with(b"ok ").then_some((Listed::Label, answer))
+    }
+}
+
+/// The answer to `iphc.parse` with the low 16 bits of its label, the ninth field.
+fn with_low_16(answer: &[u8]) -> Vec<u8> {
+    let mut fields: Vec<Vec<u8>> = answer.split(|b| *b == b' ').map(<[u8]>::to_vec).collect();
+    fields[8][0] = b'0';
+    fields.join(&b' ')
 }
 
 /// An answer that says that the Rust and rules.rs disagree.
@@ -71,10 +98,11 @@ fn is_marked(answer: &[u8]) -> bool {
     answer == b"panic" || answer.ends_with(b"?")
 }
 
-fn compare_line(lines: &Lines, ours: &Lines, theirs: &Lines, frame: &mut Vec<u8>, counts: &mut Counts) {
+fn compare_line(lines: &Lines, ours: &Lines, theirs: &Lines, judge: &mut Judge, counts: &mut Counts) {
     counts.lines += 1;
-    let want = wanted(&lines.line, frame);
+    let want = judge.wanted(&lines.line);
     let well = match &want {
+        Some((Listed::Label, answer)) => ours.line == *answer && theirs.line == with_low_16(answer),
         Some((_, answer)) => ours.line == *answer,
         None => ours.line == theirs.line && (lines.line.starts_with(b"#") || !is_marked(&theirs.line)),
     };
@@ -82,12 +110,13 @@ fn compare_line(lines: &Lines, ours: &Lines, theirs: &Lines, frame: &mut Vec<u8>
         _ if well && ours.line == theirs.line => counts.agreed += 1,
         Some((Listed::BothAbsent, _)) if well => counts.both_absent += 1,
         Some((Listed::SourceOnly, _)) if well => counts.source_only += 1,
+        Some((Listed::Label, _)) if well => counts.label += 1,
         _ => {
             counts.differences += 1;
             if counts.differences <= SHOWN {
                 eprintln!("{}\n  ours   {}\n  theirs {}", lines.text(), ours.text(), theirs.text());
                 if let Some((_, answer)) = want {
-                    eprintln!("  wanted {} (document 01 decides here)", String::from_utf8_lossy(&answer));
+                    eprintln!("  wanted {} (the documents decide here)", String::from_utf8_lossy(&answer));
                 }
             }
         }
@@ -97,7 +126,7 @@ fn compare_line(lines: &Lines, ours: &Lines, theirs: &Lines, frame: &mut Vec<u8>
 /// Prints the number of lines, of equal answers and of each listed difference, or fails.
 pub fn run(lines: &str, ours: &str, theirs: &str) -> io::Result<()> {
     let (mut lines, mut ours, mut theirs) = (Lines::open(lines)?, Lines::open(ours)?, Lines::open(theirs)?);
-    let (mut counts, mut frame) = (Counts::default(), Vec::new());
+    let (mut counts, mut judge) = (Counts::default(), Judge::new());
     loop {
         let more = lines.next()?;
         for answers in [&mut ours, &mut theirs] {
@@ -109,11 +138,11 @@ pub fn run(lines: &str, ours: &str, theirs: &str) -> io::Result<()> {
         if !more {
             break;
         }
-        compare_line(&lines, &ours, &theirs, &mut frame, &mut counts);
+        compare_line(&lines, &ours, &theirs, &mut judge, &mut counts);
     }
     if counts.differences > 0 {
         return Err(io::Error::other(format!("{} of {} answers differ", counts.differences, counts.lines)));
     }
-    println!("{} {} {} {}", counts.lines, counts.agreed, counts.both_absent, counts.source_only);
+    println!("{} {} {} {} {}", counts.lines, counts.agreed, counts.both_absent, counts.source_only, counts.label);
     Ok(())
 }

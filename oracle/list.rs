@@ -4,9 +4,9 @@
 
 use std::io::{self, Write};
 
-use crate::oracle::compare::wanted;
+use crate::oracle::compare::Judge;
 use crate::oracle::generate::{self, any_mac, damaged_one, iphc_between, iphc_bytes, iphc_written, mac_frame, mac_lengths};
-use crate::oracle::rules::Control;
+use crate::oracle::rules::{Control, Listed};
 use crate::oracle::sink::Sink;
 use crate::oracle::values::{
     self, BYTES, EXT, EXT_LIKE_SHORT, HOPS, KINDS_OF_LINK, LINKS, PORTS, ROOMS, Rng, SHORT_1234, WORDS, from_link,
@@ -36,27 +36,38 @@ const SECTIONS: [(&str, Section); 14] = [
 ];
 
 /// The head of the last section. make-list looks for this line.
-const LISTED: &str = "# Listed differences: here document 01 decides against the Rust, and the answers are 01's";
+const LISTED: &str = "# Listed differences: here documents 01 and 02 decide against the Rust, and the answers are theirs";
 
-/// Drops the lines where 01 decides against the Rust.
-fn without_listed(lines: &[u8]) -> Vec<u8> {
-    let mut frame = Vec::new();
-    let kept = lines.split_inclusive(|b| *b == b'\n').filter(|line| wanted(&line[..line.len() - 1], &mut frame).is_none());
-    kept.flatten().copied().collect()
+/// The lines without those where a document decides against the Rust, and those of them that are of a label.
+fn without_listed(lines: &[u8]) -> (Vec<u8>, Vec<u8>) {
+    let mut judge = Judge::new();
+    let (mut kept, mut labels) = (Vec::new(), Vec::new());
+    for line in lines.split_inclusive(|b| *b == b'\n') {
+        match judge.wanted(&line[..line.len() - 1]) {
+            None => kept.extend_from_slice(line),
+            Some((Listed::Label, _)) => labels.extend_from_slice(line),
+            Some(_) => {}
+        }
+    }
+    (kept, labels)
 }
 
 pub fn run() -> io::Result<()> {
     let mut out = io::stdout().lock();
+    let mut labelled = Vec::new();
     for (place, (title, section)) in SECTIONS.iter().enumerate() {
         let mut lines = Vec::new();
         section(&mut Sink::new(&mut lines), &mut Rng(place as u64));
         writeln!(out, "# {title}")?;
-        out.write_all(&without_listed(&lines))?;
+        let (kept, labels) = without_listed(&lines);
+        out.write_all(&kept)?;
+        labelled.extend(labels);
     }
     writeln!(out, "{LISTED}")?;
     let mut lines = Vec::new();
     listed(&mut Sink::new(&mut lines), &mut Rng(99));
-    out.write_all(&lines)
+    out.write_all(&lines)?;
+    out.write_all(&labelled)
 }
 
 // ---- MAC
@@ -402,6 +413,13 @@ fn listed(sink: &mut Sink, rng: &mut Rng) {
         for src in [2, 3] {
             listed_frame(sink, rng, control(frame_type, 2, 0, src, true));
         }
+    }
+    sink.plain("# TF 00 and 01: the Rust keeps the low 16 bits of the flow label, 02 (item 1) all 20; padding is ignored");
+    for label in ["4abcde", "7abcde", "8affff", "c10000", "fF0000", "3fffff", "018000", "0f7fff"] {
+        let label = label.to_lowercase();
+        sink.plain(&format!("iphc.parse 6b33{label}3a e0011223344556677 sabcd -"));
+        sink.plain(&format!("iphc.parse 633300{label}3a e0011223344556677 sabcd -"));
+        sink.plain(&format!("iphc.parse 63b301ff{label}3a e0011223344556677 sabcd -"));
     }
 }
 

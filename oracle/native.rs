@@ -327,7 +327,7 @@ fn write_numbers(line: &[u8]) -> Option<Vec<u64>> {
                 l.extend([(a >> 64) as u64, a as u64]);
             }
             l.extend([of_next(f.next_header()?), f.byte()?.into()]);
-            l.extend([of_byte(f.maybe_byte()?), of_byte(f.maybe_byte()?), of_word(f.maybe_word()?)]);
+            l.extend([of_byte(f.maybe_byte()?), of_byte(f.maybe_byte()?), of_word(f.maybe_label()?)]);
             for _ in 0..2 {
                 l.extend(link(f.link()?));
             }
@@ -347,7 +347,8 @@ fn reads(kind: &str, read: Reader, good: bool) -> io::Result<(Vec<u64>, Vec<u8>)
     for line in lines(kind, 1, 40 * CALLS)? {
         let start = bytes.len();
         let Some(numbers) = read_numbers(&line, &mut bytes) else { continue };
-        let is_listed = kind.starts_with("mac") && listed(&bytes[start..]).is_some();
+        let is_listed = kind.starts_with("mac") && listed(&bytes[start..]).is_some()
+            || kind.starts_with("iphc") && rules::label(&bytes[start..]).is_some_and(|l| l > 0xffff);
         let answer = one(read, &numbers, &bytes);
         if is_listed || answer.is_none() || good && answer == Some(joined(0, REFUSED)) {
             bytes.truncate(start);

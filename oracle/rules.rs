@@ -52,13 +52,15 @@ pub fn key(src: Option<Address>, dst: Option<Address>) -> Result<(), u8> {
 
 // ---- MAC
 
-/// The two cases where 01 decides against the Rust's `addr_present_flags`.
+/// The cases where 01 or 02 decides against the Rust: two of its `addr_present_flags`, and the flow label.
 #[derive(Clone, Copy, PartialEq, Eq)]
 pub enum Listed {
     /// Versions 0 and 1, both addresses absent, no compression: the Rust reads a source PAN. "a present address brings its PAN".
     BothAbsent,
     /// Version 2, source only, compressed: the Rust reads a source PAN. "src only,1: none".
     SourceOnly,
+    /// TF=00 and TF=01: the Rust keeps the low 16 bits of the flow label. 02, item 1: "RFC 6282 gives 20 bits".
+    Label,
 }
 
 /// A frame control field, by the bits of IEEE 802.15.4.
@@ -275,6 +277,21 @@ fn unicast(place: &mut Place, mode: u8, link: Option<Address>, with: Option<u8>,
         return Err(NO_LINK);
     }
     with.map_or(Ok(()), |index| context(index, contexts))
+}
+
+/// RFC 6282 3.2.1: the flow label's 20 bits, where TF is 00 or 01 and they are there. TF=00: ECN 2, DSCP 6, padding 4, label 20 bits;
+/// TF=01: ECN 2, padding 2, label 20. "padding bits stay ignored".
+pub fn label(bytes: &[u8]) -> Option<u32> {
+    let mut place = Place { bytes, at: 0 };
+    let base = place.take(2).ok()?;
+    let (tf, cid) = (base[0] >> 3 & 3, base[1] >> 7);
+    place.take(usize::from(cid)).ok()?;
+    let inline = match tf {
+        0b00 => place.take(4).ok()?,
+        0b01 => place.take(3).ok()?,
+        _ => return None,
+    };
+    Some(inline.iter().fold(0, |label: u32, b| label << 8 | u32::from(*b)) & 0xf_ffff)
 }
 
 /// RFC 6282 3.1.1 and 3.2, in the order of 3.1: the word, the context identifiers, traffic class and flow label, next header, hop limit,

@@ -121,7 +121,7 @@ impl<'a> Sink<'a> {
         line.bytes(&[repr.hop_limit]);
         line.maybe(repr.ecn.map(|n| [n]));
         line.maybe(repr.dscp.map(|n| [n]));
-        line.maybe(repr.flow_label.map(u16::to_be_bytes));
+        line.maybe_label(repr.flow_label.map(u32::from));
         line.link(repr.ll_src_addr);
         line.link(repr.ll_dst_addr);
         line.word(room);

@@ -72,6 +72,12 @@ impl<'a> Fields<'a> {
         if text == b"-" { Some(None) } else { number(text, 4).map(|n| Some(n as u16)) }
     }
 
+    /// A flow label of 20 bits, or `-`; the Rust's record has room for the low 16.
+    pub fn maybe_label(&mut self) -> Option<Option<u16>> {
+        let text = self.next()?;
+        if text == b"-" { Some(None) } else { number(text, 5).map(|n| Some(n as u16)) }
+    }
+
     /// A link-layer address: `n`, `a`, `s` and 4 digits, `e` and 16.
     pub fn link(&mut self) -> Option<Option<Address>> {
         match self.next()? {
@@ -177,6 +183,14 @@ pub trait Line {
 
     fn maybe<const N: usize>(&mut self, bytes: Option<[u8; N]>) {
         self.bytes(bytes.as_ref().map_or(&[], |b| b.as_slice()));
+    }
+
+    /// 20 bits in 5 digits, or `-`.
+    fn maybe_label(&mut self, label: Option<u32>) {
+        match label {
+            None => self.word("-"),
+            Some(l) => self.word(&format!("{l:05x}")),
+        }
     }
 
     fn link(&mut self, addr: Option<Address>) {

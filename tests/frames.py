@@ -160,13 +160,13 @@ def shortest(forms):
     return min(forms, key=lambda form: (len(form[3]) + (form[1] > 0), form[0]))
 
 
-def traffic_forms(traffic_class, flow):
+def traffic_forms(traffic_class, flow, padding=0):
     """TF values that can carry this traffic class and flow label: (TF, inline bytes), longest first. In line ECN comes
-    before DSCP (RFC 6282 3.2.1)."""
+    before DSCP (RFC 6282 3.2.1); of the bits of padding TF=00 has four and TF=01 the low two."""
     ecn, dscp = traffic_class & 3, traffic_class >> 2
-    forms = [(0, struct.pack(">I", ecn << 30 | dscp << 24 | flow))]
+    forms = [(0, struct.pack(">I", ecn << 30 | dscp << 24 | padding << 20 | flow))]
     if dscp == 0:
-        forms.append((1, struct.pack(">I", ecn << 22 | flow)[1:]))
+        forms.append((1, struct.pack(">I", ecn << 22 | (padding & 3) << 20 | flow)[1:]))
     if flow == 0:
         forms.append((2, bytes([ecn << 6 | dscp])))
     if traffic_class == 0 and flow == 0:
@@ -175,11 +175,11 @@ def traffic_forms(traffic_class, flow):
 
 
 def iphc(packet, link_src, link_dst, contexts=(), compressed_next=False, choose=shortest, inline_hop=False,
-         inline_traffic=False, force_context_byte=False):
+         inline_traffic=False, force_context_byte=False, padding=0):
     """The IPHC header of a datagram. `choose` picks among the forms of an address."""
     word, _, next_header, hop = struct.unpack(">IHBB", packet[:8])
     src, dst = packet[8:24], packet[24:40]
-    forms = traffic_forms(word >> 20 & 0xff, word & 0xfffff)
+    forms = traffic_forms(word >> 20 & 0xff, word & 0xfffff, padding)
     tf, traffic = forms[0] if inline_traffic else forms[-1]
     hlim = 0 if inline_hop else {1: 1, 64: 2, 255: 3}.get(hop, 0)
     sac, src_context, sam, src_inline = choose(unicast_forms(src, link_src, contexts, True))

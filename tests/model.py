@@ -276,8 +276,8 @@ class Iphc:
 
 def read_iphc(data, link_src, link_dst, contexts):
     """RFC 6282 3.1.1, in the order of its fields. "A read with TF=11 gives no ecn, dscp or flow label; ecn keeps its
-    place in the top two bits. The Rust keeps the low 16 bits of the flow label; so do we." "M=1 with DAC=1 is refused
-    (3)." "Absent fields are 0" once expanded, so they are 0 here."""
+    place in the top two bits." 02, item 1: "RFC 6282 gives 20 bits" of flow label, "padding bits stay ignored". "M=1
+    with DAC=1 is refused (3)." "Absent fields are 0" once expanded, so they are 0 here."""
     if len(data) < 2:
         raise Refused(1)
     if data[0] >> 5 != 0b011:
@@ -295,10 +295,10 @@ def read_iphc(data, link_src, link_dst, contexts):
     ecn = dscp = flow = 0
     if tf == 0:
         b = reader.take(4)
-        ecn, dscp, flow = b[0] & 0xc0, b[0] & 0x3f, b[2] << 8 | b[3]
+        ecn, dscp, flow = b[0] & 0xc0, b[0] & 0x3f, (b[1] & 0x0f) << 16 | b[2] << 8 | b[3]
     elif tf == 1:
         b = reader.take(3)
-        ecn, flow = b[0] & 0xc0, b[1] << 8 | b[2]
+        ecn, flow = b[0] & 0xc0, (b[0] & 0x0f) << 16 | b[1] << 8 | b[2]
     elif tf == 2:
         b = reader.take(1)
         ecn, dscp = b[0] & 0xc0, b[0] & 0x3f

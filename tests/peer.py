@@ -75,7 +75,7 @@ class Sent:
             drawn = rng.randrange(1 << 30)
             k["choose"] = lambda forms: forms[drawn % len(forms)]
         size = rng.choice((40, 41, 48, 49, 2047, rng.randrange(40, 120), rng.randrange(120, 700), rng.randrange(40, 2048)))
-        self.datagram = self.suitable(scenes.packet(rng, WORLD, src, dst, size))
+        self.datagram = scenes.packet(rng, WORLD, src, dst, size)
         compressed, covered = f.compress(self.datagram, src, dst, **k)
         self.nhc = covered == 48
         self.elided = self.nhc and k["elide"]
@@ -102,12 +102,6 @@ class Sent:
             if rng.random() < 0.5:
                 rng.shuffle(self.frames)
         self.src = src
-
-    @staticmethod
-    def suitable(datagram):
-        """A flow label of 16 bits: the product keeps no more (a listed difference)."""
-        word = int.from_bytes(datagram[:4], "big") & 0xfff0ffff
-        return struct.pack(">I", word) + datagram[4:]
 
 
 def send(rng, count):

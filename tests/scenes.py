@@ -97,6 +97,8 @@ def knobs(rng, world, used_contexts=True):
         k["inline_traffic"] = True
     if chance(rng, 0.05):
         k["force_context_byte"] = True
+    if chance(rng, 0.3):
+        k["padding"] = rng.choice((1, 2, 3, 15, rng.randrange(16)))
     return k
 
 

@@ -143,6 +143,14 @@ def whole_frames(s):
     s.remark("Traffic class dscp*4+ecn/64, a flow label, a hop limit in line, an address of all zeros")
     odd = f.datagram(bytes(16), f.ip("ff05::1:3"), 58, b"", hop=7, traffic_class=0xb9, flow=0x1234)
     s.call(0, from_to(ONE, f.BROADCAST, f.iphc(odd, ONE, f.BROADCAST)), odd, "")
+    s.remark("02, item 1: all 20 bits of the flow label. TF=01, 4a bc de: ECN 1 and label abcde; the same with both bits of padding set;"
+             " TF=00 with DSCP 46 and all four bits of padding set")
+    one, labels = f.link_local(ONE), {"hop": 255, "flow": 0xabcde}
+    marked = f.datagram(one, f.link_local(CONTROLLER), 58, hexed("aabb"), traffic_class=1, **labels)
+    s.call(0, from_to(ONE, CONTROLLER, "6b334abcde3aaabb"), marked, "")
+    s.call(0, from_to(ONE, CONTROLLER, "6b337abcde3aaabb"), marked, "")
+    classed = f.datagram(one, f.link_local(CONTROLLER), 58, hexed("aabb"), traffic_class=46 << 2 | 1, **labels)
+    s.call(0, from_to(ONE, CONTROLLER, "63336efabcde3aaabb"), classed, "")
     s.remark("020000fffe001234 and short 1234 give one interface identifier, and are two gateways' addresses")
     alike = f.datagram(f.ip("fe80::ff:fe00:1234"), f.link_local(CONTROLLER), 58, b"")
     s.call(0, from_to(FOUR, CONTROLLER, "7a333a"), alike, "")

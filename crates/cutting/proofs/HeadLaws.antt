@@ -25,6 +25,7 @@ use Rattle.sixlowpan.specs.declared.protocol.NextHeader.{NextHeader}
 use Rattle.sixlowpan.specs.declared.protocol.NextHeader.the-variants.{Compressed, Uncompressed}
 use Rattle.sixlowpan.proofs.NhcPuts.{length-udp}
 use Rattle.iphc.specs.Emit as Iphc
+use Rattle.iphc.specs.declared.label.LabelField.{LabelField}
 use Rattle.iphc.specs.declared.header.Repr.{Repr}
 use Rattle.iphc.proofs.Puts as IphcPuts
 use Rattle.iphc.proofs.Lengths.{at-most-36}
@@ -36,7 +37,7 @@ use Rattle.cutting.specs.declared.link.Link.{Link}
 pub next-told : (x y : ℕ) → x ≡ y → Uncompressed (record { 0 = x }) ≡ Uncompressed (record { 0 = y })
 next-told x y p = ap (λ z. Uncompressed (record { 0 = z })) p
 
-pub ip-told : (l : Link) (d : List ℕ) (p i q j : ℕ) (n : NextHeader) (h : ℕ) → p ≡ orZero (be64 d 8) → i ≡ orZero (be64 d 16) → q ≡ orZero (be64 d 24) → j ≡ orZero (be64 d 32) → n ≡ nextOf d → h ≡ orZero (byte d 7) → _≡_ {A = Repr} (record { «src_addr» = ip p i; «ll_src_addr» = AddressField.Some (l .src); «dst_addr» = ip q j; «ll_dst_addr» = AddressField.Some (l .dst); «next_header» = n; «hop_limit» = h; ecn = ByteField.None; dscp = ByteField.None; «flow_label» = WordField.None }) (ipOf l d)
+pub ip-told : (l : Link) (d : List ℕ) (p i q j : ℕ) (n : NextHeader) (h : ℕ) → p ≡ orZero (be64 d 8) → i ≡ orZero (be64 d 16) → q ≡ orZero (be64 d 24) → j ≡ orZero (be64 d 32) → n ≡ nextOf d → h ≡ orZero (byte d 7) → _≡_ {A = Repr} (record { «src_addr» = ip p i; «ll_src_addr» = AddressField.Some (l .src); «dst_addr» = ip q j; «ll_dst_addr» = AddressField.Some (l .dst); «next_header» = n; «hop_limit» = h; ecn = ByteField.None; dscp = ByteField.None; «flow_label» = LabelField.None }) (ipOf l d)
 unfolding ipOf
 ip-told l d p i q j n h e1 e2 e3 e4 e5 e6 = rw (e1, e2, e3, e4, e5, e6) refl
 

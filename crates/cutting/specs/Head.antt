@@ -15,6 +15,7 @@ use Rattle.sixlowpan.specs.declared.nhc.UdpNhcRepr.{UdpNhcRepr}
 use Rattle.sixlowpan.specs.declared.protocol.NextHeader.{NextHeader}
 use Rattle.sixlowpan.specs.declared.protocol.NextHeader.the-variants.{Compressed, Uncompressed}
 use Rattle.iphc.specs.Emit as Iphc
+use Rattle.iphc.specs.declared.label.LabelField.{LabelField}
 use Rattle.iphc.specs.declared.header.Repr.{Repr}
 use Rattle.cutting.specs.Fields.{orZero, isUdp}
 use Rattle.cutting.specs.declared.link.Link.{Link}
@@ -57,7 +58,7 @@ ipOf l d =
       «hop_limit» = orZero (byte d 7);
       ecn = ByteField.None;
       dscp = ByteField.None;
-      «flow_label» = WordField.None;
+      «flow_label» = LabelField.None;
     }
 
 unfoldable pub udpOf : List ℕ → UdpNhcRepr

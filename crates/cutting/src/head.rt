@@ -11,6 +11,7 @@ use super::fields::word_at;
 use super::link::Link;
 use expand::copy::put_part;
 use ieee802154::AddressField;
+use iphc::LabelField;
 use octets::field::ByteField;
 use octets::field::WordField;
 use octets::ipv6::Ipv6Addr;
@@ -51,7 +52,7 @@ fn ip_of(d: &[u8], l: Link) -> iphc::Repr
         hop_limit,
         ecn: ByteField::None,
         dscp: ByteField::None,
-        flow_label: WordField::None,
+        flow_label: LabelField::None,
     }
 }
 

@@ -1,15 +1,16 @@
--- Frames worked out: the scope document's printed one, of 44 bytes, and UDP with its checksum elided.
+-- Frames worked out: the scope document's printed one, of 44 bytes, one with a flow label, and UDP with its checksum elided.
 use Prim.Native.Nat.{ℕ}
 use mathlib.Core.List.{List, [], _∷_, _++_}
 use mathlib.Core.Bool.{Bool, true, false}
 use mathlib.Core.Path.{_≡_, refl}
+use lib.ListN.{drop}
 use Rattle.octets.specs.Read.{Answer, is, refused, byte, be16}
 use Rattle.octets.specs.Write.{put, byteBytes, be16Bytes, be32Bytes, be64Bytes}
 use Rattle.octets.specs.declared.field.WordField.{WordField}
 use Rattle.ieee802154.specs.declared.addr.Address.the-variants.{Short}
 use Rattle.ieee802154.specs.declared.addr.AddressField.{AddressField}
 use Rattle.sixlowpan.specs.Next.{nextHeader}
-use Rattle.iphc.specs.Iphc.{base, contexts, traffic, hopLimit, frontRest, front, identifier, prefixOf, elided, source, destination, addresses, reprOf, behind, iphc}
+use Rattle.iphc.specs.Iphc.{base, contexts, labelled, ecnAndLabel, traffic, hopLimit, frontRest, front, identifier, prefixOf, elided, source, destination, addresses, reprOf, behind, iphc}
 use Rattle.sixlowpan.specs.Nhc.{nhcOf, nhc}
 use Rattle.sixlowpan.specs.NhcUdp.{bothPorts, ports, checksum, udpRest, udp}
 use Rattle.expand.specs.Sum.{words, onesSum, pseudo, covered, udpChecksum, summed}
@@ -32,6 +33,11 @@ ipv6 payload next r =
 pub printed-example : of WordField.None (0x7a ∷ 0x33 ∷ 0x3a ∷ 0x01 ∷ 0x02 ∷ 0x03 ∷ 0x04 ∷ []) ≡ is (record { bytes = ipv6 0x04 0x3a (0x01 ∷ 0x02 ∷ 0x03 ∷ 0x04 ∷ []); elided = false })
 unfolding byte be16 put byteBytes be16Bytes be32Bytes be64Bytes nextHeader base contexts traffic hopLimit frontRest front identifier prefixOf elided source destination addresses reprOf behind iphc nhcOf nhc bothPorts ports checksum udpRest udp words onesSum pseudo covered udpChecksum summed transport byNext headers frontBytes bothBytes ipv6Bytes udpBytes plain bytesOf sized expansion
 printed-example = refl
+
+-- the same with TF = 01 and 4a bc de: traffic class 1 and the whole label abcde
+pub label-example : of WordField.None (0x6a ∷ 0x33 ∷ 0x4a ∷ 0xbc ∷ 0xde ∷ 0x3a ∷ 0x01 ∷ 0x02 ∷ 0x03 ∷ 0x04 ∷ []) ≡ is (record { bytes = 0x60 ∷ 0x1a ∷ 0xbc ∷ 0xde ∷ drop 4 (ipv6 0x04 0x3a (0x01 ∷ 0x02 ∷ 0x03 ∷ 0x04 ∷ [])); elided = false })
+unfolding byte be16 put byteBytes be16Bytes be32Bytes be64Bytes nextHeader base contexts labelled ecnAndLabel traffic hopLimit frontRest front identifier prefixOf elided source destination addresses reprOf behind iphc nhcOf nhc bothPorts ports checksum udpRest udp words onesSum pseudo covered udpChecksum summed transport byNext headers frontBytes bothBytes ipv6Bytes udpBytes plain bytesOf sized expansion
+label-example = refl
 
 -- ports f0b1 and f0b2, five bytes of data: unfragmented, and as the first part of 200 bytes; then cut short, an extension header, and a first
 -- part that ends beyond its size

@@ -7,3 +7,4 @@ pub mod ChecksumLaws
 pub mod Datagrams
 pub mod Unique
 pub mod Examples
+pub mod Labels

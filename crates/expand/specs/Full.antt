@@ -1,11 +1,12 @@
 -- The headers in full: IPv6 (RFC 8200, 3) and UDP (RFC 768).
-use Prim.Native.Nat.{ℕ, _+_, _*_, _/_, _^_}
+use Prim.Native.Nat.{ℕ, _+_, _*_, _/_, _%_, _^_}
 use mathlib.Core.List.{List, [], _++_}
 use mathlib.Core.Bool.{Bool, true, false}
 use Rattle.octets.specs.Write.{byteBytes, be16Bytes, be32Bytes, be64Bytes}
 use Rattle.octets.specs.declared.field.ByteField.{ByteField}
 use Rattle.octets.specs.declared.field.WordField.{WordField}
 use Rattle.octets.specs.declared.ipv6.Ipv6Addr.{Ipv6Addr}
+use Rattle.iphc.specs.declared.label.LabelField.{LabelField}
 use Rattle.iphc.specs.declared.header.Repr.{Repr}
 use Rattle.sixlowpan.specs.declared.protocol.NextHeader.{NextHeader}
 use Rattle.sixlowpan.specs.declared.protocol.NextHeader.the-variants.{Compressed, Uncompressed}
@@ -20,14 +21,18 @@ abbrev pub wordOr : WordField → ℕ
 wordOr WordField.None = 0
 wordOr (WordField.Some x) = x
 
+abbrev pub labelOr : LabelField → ℕ
+labelOr LabelField.None = 0
+labelOr (LabelField.Some l) = l .0
+
 -- ---- RFC 8200, 3
 -- the traffic class: DSCP in its upper six bits, ECN in its lower two (RFC 2474, RFC 3168); a compressed header has ECN in the top two
 abbrev pub classOf : Repr → ℕ
 classOf h = byteOr (h .dscp) * 4 + byteOr (h .ecn) / 64
 
--- version, 4 bits; traffic class, 8; flow label, 20
+-- version, 4 bits; traffic class, 8; flow label, 20: the whole label that was read (`label-whole`, proofs/Labels.antt)
 abbrev pub firstWord : Repr → ℕ
-firstWord h = 6 * 2 ^ 28 + classOf h * 2 ^ 20 + wordOr (h .«flow_label»)
+firstWord h = 6 * 2 ^ 28 + classOf h * 2 ^ 20 + labelOr (h .«flow_label») % 2 ^ 20
 
 -- the next header that is compressed is UDP
 abbrev pub nextOf : NextHeader → ℕ

@@ -2,8 +2,9 @@
 ghost use mathlib.Core.Path.{_≡_};
 ghost use Prim.Native.Nat.{_<_, _≤_};
 ghost use Rattle.octets.specs.Write.{put};
-ghost use Rattle.expand.specs.Full.{byteOr, wordOr, classOf, nextOf, firstWord, frontBytes, bothBytes, ipv6Bytes, udpSize, udpBytes, isElided};
+ghost use Rattle.expand.specs.Full.{byteOr, wordOr, labelOr, classOf, nextOf, firstWord, frontBytes, bothBytes, ipv6Bytes, udpSize, udpBytes, isElided};
 use super::headers::UdpField;
+use iphc::LabelField;
 use iphc::Repr;
 use octets::field::ByteField;
 use octets::field::WordField;
@@ -34,6 +35,15 @@ fn word_or(f: WordField) -> u16
     }
 }
 
+fn label_or(f: LabelField) -> u32
+    ensures { λ r. ⌜ r ≡ labelOr f ⌝ }
+{
+    match f {
+        LabelField::None => 0,
+        LabelField::Some(l) => l.0,
+    }
+}
+
 // The next header's number: UDP where it is compressed.
 fn next_of(next: NextHeader) -> u8
     ensures { λ r. ⌜ r ≡ nextOf next ⌝ }
@@ -52,7 +62,7 @@ fn first_word(ip: Repr) -> u32
     let dscp = ip.dscp;
     let label = ip.flow_label;
     let class = byte_or(dscp) * 4 + byte_or(ecn) / 64;
-    0x6000_0000 + class * 0x10_0000 + (word_or(label) as u32)
+    0x6000_0000 + class * 0x10_0000 + label_or(label) % 0x10_0000
 }
 
 // What stands before the addresses.

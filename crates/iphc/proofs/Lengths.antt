@@ -11,18 +11,18 @@ use lib.ListN.{length}
 use Rattle.octets.specs.Read.{Answer, is, refused, Reader, got, choose, branch, give, refuse, byte, be16, be32, be64, _>>=_}
 use Rattle.octets.specs.Ipv6.{ip, isUnspecified, isMulticast, isLinkLocal}
 use Rattle.octets.specs.declared.field.ByteField.{ByteField}
-use Rattle.octets.specs.declared.field.WordField.{WordField}
 use Rattle.octets.specs.declared.ipv6.Ipv6Addr.{Ipv6Addr}
 use Rattle.octets.proofs.Spans.{Spans, First, not-refused, spans-first, spans-then, spans-branch, spans-guard, spans-map, spans-both, spans-give, spans-refuse, spans-byte, spans-be16, spans-be32, spans-be64}
 use Rattle.ieee802154.specs.declared.addr.AddressField.{AddressField}
 use Rattle.sixlowpan.specs.Next.{nextHeader, nextBit, nextWidth}
-use Rattle.iphc.specs.Iphc.{baseOf, base, contexts, trafficOf, ecnOf, dscpOf, labelled, classAndLabel, ecnAndLabel, classOnly, traffic, hopLimit, frontRest, front, shortIid, linkIid, having, identifier, full, prefixOf, elided, source, group48, group32, group8, multicast, destination, addresses, reprOf, behind, iphc}
+use Rattle.iphc.specs.Iphc.{baseOf, base, contexts, trafficOf, ecnOf, dscpOf, labelOf, labelled, classAndLabel, ecnAndLabel, classOnly, traffic, hopLimit, frontRest, front, shortIid, linkIid, having, identifier, full, prefixOf, elided, source, group48, group32, group8, multicast, destination, addresses, reprOf, behind, iphc}
 use Rattle.iphc.specs.Emit.{inlineLength, form, fullForm, isShort, isExtended, iidForm, srcForm, isGroup8, isScoped, scopeOf, multicastForm, dstForm, hopBits, hopLength, sourceForm, destForm, lengthOf}
 use Rattle.iphc.specs.Widths.{contextsWidth, trafficWidth, hopWidth, identifierWidth, sourceWidth, multicastWidth, destinationWidth, baseWidth}
 use Rattle.sixlowpan.specs.declared.protocol.NextHeader.{NextHeader}
 use Rattle.sixlowpan.specs.declared.protocol.NextHeader.the-variants.{Compressed, Uncompressed}
 use Rattle.iphc.specs.declared.form.Inline.the-variants.{Nothing, Bits8, Bits16, Bits32, Bits48, Bits64, Bits128}
 use Rattle.iphc.specs.declared.form.Form.{Form}
+use Rattle.iphc.specs.declared.label.LabelField.{LabelField}
 use Rattle.iphc.specs.declared.read.Base.{Base}
 use Rattle.iphc.specs.declared.read.Contexts.{Contexts}
 use Rattle.iphc.specs.declared.read.Traffic.{Traffic}
@@ -40,21 +40,21 @@ spans-contexts : (cid : ℕ) → Spans (contexts cid) (contextsWidth cid)
 unfolding contexts
 spans-contexts cid = spans-branch (eqb cid 0) (give _) _ 0 1 (spans-give _) (spans-map byte (λ b. record { src = b / 16; dst = b % 16 }) 1 spans-byte)
 
-spans-labelled : (e d : ByteField) → Spans (labelled e d) 2
+spans-labelled : (high : ℕ) (e d : ByteField) → Spans (labelled high e d) 2
 unfolding labelled
-spans-labelled e d = spans-map be16 (λ l. trafficOf e d (WordField.Some l)) 2 spans-be16
+spans-labelled high e d = spans-map be16 (λ low. trafficOf e d (LabelField.Some (labelOf high low))) 2 spans-be16
 
 spans-class-label : Spans classAndLabel 4
 unfolding classAndLabel
-spans-class-label = spans-then byte (λ b. _>>=_ byte (λ z. labelled (ecnOf b) (dscpOf b))) 1 3 spans-byte (λ b. spans-then byte (λ z. labelled (ecnOf b) (dscpOf b)) 1 2 spans-byte (λ z. spans-labelled (ecnOf b) (dscpOf b)))
+spans-class-label = spans-then byte (λ b. _>>=_ byte (λ z. labelled z (ecnOf b) (dscpOf b))) 1 3 spans-byte (λ b. spans-then byte (λ z. labelled z (ecnOf b) (dscpOf b)) 1 2 spans-byte (λ z. spans-labelled z (ecnOf b) (dscpOf b)))
 
 spans-ecn-label : Spans ecnAndLabel 3
 unfolding ecnAndLabel
-spans-ecn-label = spans-then byte (λ b. labelled (ecnOf b) ByteField.None) 1 2 spans-byte (λ b. spans-labelled (ecnOf b) ByteField.None)
+spans-ecn-label = spans-then byte (λ b. labelled b (ecnOf b) ByteField.None) 1 2 spans-byte (λ b. spans-labelled b (ecnOf b) ByteField.None)
 
 spans-class : Spans classOnly 1
 unfolding classOnly
-spans-class = spans-map byte (λ b. trafficOf (ecnOf b) (dscpOf b) WordField.None) 1 spans-byte
+spans-class = spans-map byte (λ b. trafficOf (ecnOf b) (dscpOf b) LabelField.None) 1 spans-byte
 
 spans-traffic : (tf : ℕ) → Spans (traffic tf) (trafficWidth tf)
 unfolding traffic

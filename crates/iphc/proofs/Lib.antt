@@ -8,3 +8,4 @@ pub mod Unique
 pub mod Gives
 pub mod Bytes
 pub mod Shortest
+pub mod Labels

@@ -14,7 +14,6 @@ use Rattle.octets.specs.Write.{over, byteBytes, be16Bytes, be32Bytes, be64Bytes
 use Rattle.octets.specs.Ipv6.{ip, linkLocal, isUnspecified, isMulticast, isLinkLocal}
 use Rattle.octets.specs.declared.ipv6.Ipv6Addr.{Ipv6Addr}
 use Rattle.octets.specs.declared.field.ByteField.{ByteField}
-use Rattle.octets.specs.declared.field.WordField.{WordField}
 use Rattle.octets.proofs.Steps.{and-true}
 use Rattle.octets.proofs.RoundTrip.{Reads, reads-then, reads-last, reads-both, reads-map, reads-as, reads-if, reads-give, reads-byte, reads-be16, reads-be32, reads-be64, emit-then-read}
 use Rattle.ieee802154.specs.Address.{eui64}
@@ -27,6 +26,7 @@ use Rattle.iphc.specs.Emit.{inlineBytes, form, fullForm, isShort, isOf, 
 use Rattle.sixlowpan.specs.declared.protocol.NextHeader.{NextHeader}
 use Rattle.iphc.specs.declared.form.Inline.the-variants.{Nothing, Bits8, Bits16, Bits32, Bits48, Bits64, Bits128}
 use Rattle.iphc.specs.declared.form.Form.{Form}
+use Rattle.iphc.specs.declared.label.LabelField.{LabelField}
 use Rattle.iphc.specs.declared.read.Base.{Base}
 use Rattle.iphc.specs.declared.read.Contexts.{Contexts}
 use Rattle.iphc.specs.declared.read.Traffic.{Traffic}
@@ -253,7 +253,7 @@ abbrev noContexts : Contexts
 noContexts = record { src = 0; dst = 0 }
 
 abbrev noTraffic : Traffic
-noTraffic = trafficOf ByteField.None ByteField.None WordField.None
+noTraffic = trafficOf ByteField.None ByteField.None LabelField.None
 
 reads-no-contexts : (c : ℕ) → c ≡ 0 → Reads (contexts c) [] noContexts
 unfolding contexts
@@ -297,7 +297,7 @@ restored r =
       «hop_limit» = r .«hop_limit»;
       ecn = ByteField.None;
       dscp = ByteField.None;
-      «flow_label» = WordField.None;
+      «flow_label» = LabelField.None;
     }
 
 -- wherever the bytes of a header stand, whatever follows them and whatever the contexts: with any forms of its addresses that read back

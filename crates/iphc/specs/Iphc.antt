@@ -1,5 +1,5 @@
 -- The compressed IPv6 header, as it is read (RFC 6282, 3).
-use Prim.Native.Nat.{ℕ, _+_, _*_, _/_, _%_, _^_}
+use Prim.Native.Nat.{ℕ, _+_, _*_, _/_, _%_, _^_, _<_}
 use mathlib.Core.List.{List}
 use mathlib.Core.Option.{Option, none, some}
 use lib.Dec.{eqb}
@@ -7,13 +7,14 @@ use Rattle.octets.specs.Read.{Answer, is, refused, Placed, Read, Reader, got, a
 use Rattle.octets.specs.Refusal.{numberOf}
 use Rattle.octets.specs.Ipv6.{ip, linkLocal}
 use Rattle.octets.specs.declared.field.ByteField.{ByteField}
-use Rattle.octets.specs.declared.field.WordField.{WordField}
 use Rattle.octets.specs.declared.ipv6.Ipv6Addr.{Ipv6Addr}
 use Rattle.ieee802154.specs.Address.{eui64}
 use Rattle.ieee802154.specs.declared.addr.Address.the-variants.{Absent, Short, Extended}
 use Rattle.ieee802154.specs.declared.addr.AddressField.{AddressField}
 use Rattle.iphc.specs.Context.{contextAt}
 use Rattle.sixlowpan.specs.Next.{nextHeader}
+use Rattle.iphc.specs.declared.label.FlowLabel.{FlowLabel}
+use Rattle.iphc.specs.declared.label.LabelField.{LabelField}
 use Rattle.iphc.specs.declared.read.Base.{Base}
 use Rattle.iphc.specs.declared.read.Contexts.{Contexts}
 use Rattle.iphc.specs.declared.read.Traffic.{Traffic}
@@ -51,7 +52,7 @@ contexts cid =
       give (record { src = b / 16; dst = b % 16 }))
 
 -- ---- 3.2.1, TF
-abbrev pub trafficOf : ByteField → ByteField → WordField → Traffic
+abbrev pub trafficOf : ByteField → ByteField → LabelField → Traffic
 trafficOf e d f = record { ecn = e; dscp = d; «flow_label» = f }
 
 -- ECN is the top two bits of its byte, and keeps its place; DSCP is the low six
@@ -61,37 +62,45 @@ ecnOf b = ByteField.Some (b / 64 * 64)
 abbrev pub dscpOf : ℕ → ByteField
 dscpOf b = ByteField.Some (b % 64)
 
--- the low 16 bits of the flow label are kept (a listed difference from the RFC)
-unfoldable pub labelled : ByteField → ByteField → Reader Traffic
-labelled e d = do
-  label ← be16
-  give (trafficOf e d (WordField.Some label))
+-- the flow label: 20 bits, the low four of a byte and the two bytes behind it. The byte's other bits are padding, and ECN where TF = 01
+abbrev pub labelOf : ℕ → ℕ → FlowLabel
+labelOf high low = record { 0 = high % 16 * 2 ^ 16 + low }
 
--- 00: ECN, DSCP, 4 bits of padding, 20 of flow label
+-- what a label is to be
+abbrev pub LabelFits : LabelField → Type 0
+LabelFits LabelField.None = Unit {0}
+LabelFits (LabelField.Some l) = l .0 < 2 ^ 20
+
+unfoldable pub labelled : ℕ → ByteField → ByteField → Reader Traffic
+labelled high e d = do
+  low ← be16
+  give (trafficOf e d (LabelField.Some (labelOf high low)))
+
+-- 00: ECN (2 bits), DSCP (6), padding (4), flow label (20)
 unfoldable pub classAndLabel : Reader Traffic
 classAndLabel = do
   b ← byte
   high ← byte
-  labelled (ecnOf b) (dscpOf b)
+  labelled high (ecnOf b) (dscpOf b)
 
--- 01: ECN, 2 bits of padding, 20 of flow label
+-- 01: ECN (2), padding (2), flow label (20)
 unfoldable pub ecnAndLabel : Reader Traffic
 ecnAndLabel = do
   b ← byte
-  labelled (ecnOf b) ByteField.None
+  labelled b (ecnOf b) ByteField.None
 
--- 10: ECN, DSCP
+-- 10: ECN (2), DSCP (6)
 unfoldable pub classOnly : Reader Traffic
 classOnly = do
   b ← byte
-  give (trafficOf (ecnOf b) (dscpOf b) WordField.None)
+  give (trafficOf (ecnOf b) (dscpOf b) LabelField.None)
 
 -- 11: nothing
 unfoldable pub traffic : ℕ → Reader Traffic
 traffic tf =
     branch (eqb tf 0b00) classAndLabel
     (branch (eqb tf 0b01) ecnAndLabel
-    (branch (eqb tf 0b10) classOnly (give (trafficOf ByteField.None ByteField.None WordField.None))))
+    (branch (eqb tf 0b10) classOnly (give (trafficOf ByteField.None ByteField.None LabelField.None))))
 
 -- ---- 3.1.1, HLIM: inline, 1, 64 or 255
 unfoldable pub hopLimit : ℕ → Reader ℕ

@@ -10,6 +10,7 @@ use super::emit::put_addresses;
 use super::emit::put_front;
 use super::form::dst_form;
 use super::form::src_form;
+use super::label::LabelField;
 use super::read::Addresses;
 use super::read::AddressesRead;
 use super::read::Base;
@@ -22,7 +23,6 @@ use ieee802154::addr::AddressField;
 use octets::cursor::Cursor;
 use octets::cursor::WordRead;
 use octets::field::ByteField;
-use octets::field::WordField;
 use octets::ipv6::Ipv6Addr;
 use octets::refusal::Refusal;
 use octets::write::Written;
@@ -39,7 +39,7 @@ pub struct Repr {
     pub hop_limit: u8,
     pub ecn: ByteField,
     pub dscp: ByteField,
-    pub flow_label: WordField,
+    pub flow_label: LabelField,
 }
 
 // A header and the place after it, or why there is none.

@@ -1,6 +1,7 @@
 // Compressed IPv6 headers, IPHC (RFC 6282, 3).
 //
 // - `header`: the header as a whole, `Repr`, read and written. `context`: the prefixes that compressed addresses refer to.
+// - `label`: the flow label, 20 bits.
 // - `read`, `form` and `emit` are its parts: the reader field by field, how an address is written, the writer.
 //
 // `Repr::read` is specs/Iphc.antt's `iphc` on every slice, at every place, with any contexts and link-layer addresses.
@@ -12,8 +13,11 @@ pub mod context;
 mod emit;
 mod form;
 pub mod header;
+pub mod label;
 mod read;
 
 pub use context::AddressContext;
 pub use header::Parsed;
 pub use header::Repr;
+pub use label::FlowLabel;
+pub use label::LabelField;

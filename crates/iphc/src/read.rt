@@ -8,6 +8,8 @@ ghost use Rattle.iphc.specs.Iphc.{source, group48, group32, group8, mult
 ghost use Rattle.iphc.specs.Answers.{ofContexts, ofTraffic, ofFront, ofIid, ofAddr, ofAddresses};
 use super::context::PrefixAnswer;
 use super::context::prefix_at;
+use super::label::FlowLabel;
+use super::label::LabelField;
 use ieee802154::addr::Address;
 use ieee802154::addr::AddressField;
 use ieee802154::addr::Eui64;
@@ -17,7 +19,6 @@ use octets::cursor::LongRead;
 use octets::cursor::WideRead;
 use octets::cursor::WordRead;
 use octets::field::ByteField;
-use octets::field::WordField;
 use octets::ipv6::Ipv6Addr;
 use octets::refusal::Refusal;
 use sixlowpan::next::NextRead;
@@ -47,7 +48,7 @@ pub struct Contexts {
 pub struct Traffic {
     pub ecn: ByteField,
     pub dscp: ByteField,
-    pub flow_label: WordField,
+    pub flow_label: LabelField,
 }
 
 // What stands before the addresses.
@@ -144,16 +145,18 @@ fn read_contexts(buf: &[u8], c: Cursor, cid: u8) -> ContextsRead
     }
 }
 
-// The flow label's low 16 bits, and what was read before them.
-fn read_label(buf: &[u8], c: Cursor, ecn: ByteField, dscp: ByteField) -> TrafficRead
-    ensures { λ r. ⌜ ofTraffic r ≡ labelled ecn dscp (now (buf .entry)) (c .at) ⌝ }
+// The flow label, whose top four bits ended the byte before, and what was read before it.
+fn read_label(buf: &[u8], c: Cursor, high: u8, ecn: ByteField, dscp: ByteField) -> TrafficRead
+    ensures { λ r. ⌜ ofTraffic r ≡ labelled high ecn dscp (now (buf .entry)) (c .at) ⌝ }
 {
     match c.be16(buf) {
-        WordRead::Field(label, d) => TrafficRead::Field(
+        WordRead::Field(low, d) => TrafficRead::Field(
             Traffic {
                 ecn,
                 dscp,
-                flow_label: WordField::Some(label),
+                flow_label: LabelField::Some(FlowLabel(
+                    (high % 16) as u32 * 0x1_0000 + (low as u32),
+                )),
             },
             d,
         ),
@@ -167,9 +170,10 @@ fn read_class_and_label(buf: &[u8], c: Cursor) -> TrafficRead
 {
     match c.byte(buf) {
         ByteRead::Field(b, d) => match d.byte(buf) {
-            ByteRead::Field(_, e) => read_label(
+            ByteRead::Field(high, e) => read_label(
                 buf,
                 e,
+                high,
                 ByteField::Some(b / 64 * 64),
                 ByteField::Some(b % 64),
             ),
@@ -184,7 +188,9 @@ fn read_ecn_and_label(buf: &[u8], c: Cursor) -> TrafficRead
     ensures { λ r. ⌜ ofTraffic r ≡ ecnAndLabel (now (buf .entry)) (c .at) ⌝ }
 {
     match c.byte(buf) {
-        ByteRead::Field(b, d) => read_label(buf, d, ByteField::Some(b / 64 * 64), ByteField::None),
+        ByteRead::Field(b, d) => {
+            read_label(buf, d, b, ByteField::Some(b / 64 * 64), ByteField::None)
+        }
         ByteRead::Refused(e) => TrafficRead::Refused(e),
     }
 }
@@ -198,7 +204,7 @@ fn read_class(buf: &[u8], c: Cursor) -> TrafficRead
             Traffic {
                 ecn: ByteField::Some(b / 64 * 64),
                 dscp: ByteField::Some(b % 64),
-                flow_label: WordField::None,
+                flow_label: LabelField::None,
             },
             d,
         ),
@@ -222,7 +228,7 @@ fn read_traffic(buf: &[u8], c: Cursor, tf: u8) -> TrafficRead
         Traffic {
             ecn: ByteField::None,
             dscp: ByteField::None,
-            flow_label: WordField::None,
+            flow_label: LabelField::None,
         },
         c,
     )

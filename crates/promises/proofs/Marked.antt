@@ -21,11 +21,12 @@ use Rattle.sixlowpan.specs.NhcUdp.{udpBytes}
 use Rattle.sixlowpan.specs.NhcExt.{ext, extBytes}
 use Rattle.sixlowpan.specs.declared.protocol.NextHeader.the-variants.{Uncompressed}
 use Rattle.sixlowpan.specs.declared.frag.Repr.the-variants.{FirstFragment, Fragment}
+use Rattle.iphc.specs.declared.label.LabelField.{LabelField}
 use Rattle.iphc.specs.declared.header.Repr as IphcRepr
 use Rattle.sixlowpan.specs.declared.nhc.UdpNhcRepr.{UdpNhcRepr}
 use Rattle.sixlowpan.specs.declared.nhc.ExtHeaderId.the-variants.{Reserved}
 use Rattle.sixlowpan.specs.declared.nhc.ExtHeaderRepr.{ExtHeaderRepr}
-use Rattle.iphc.proofs.Examples.{k1-k5}
+use Rattle.iphc.proofs.Examples.{k1-k5, labels}
 use Rattle.sixlowpan.proofs.Examples.{k6-k7-k8-k10, k9}
 use Rattle.reassembly.specs.Slots.{opened, expired}
 use Rattle.reassembly.specs.declared.slot.Key.{Key}
@@ -42,9 +43,9 @@ destination = AddressField.Some (Short 0xabcd)
 abbrev reads : AddressField → List ℕ → Read IphcRepr.Repr
 reads src s = iphc [] src destination s 0
 
--- the header of these addresses, next header and hop limit
-abbrev header : Ipv6Addr → Ipv6Addr → ℕ → ℕ → IphcRepr.Repr
-header a b next hop =
+-- the header of these addresses, next header and hop limit, with an ECN and a flow label
+abbrev classed : ByteField → LabelField → Ipv6Addr → Ipv6Addr → ℕ → ℕ → IphcRepr.Repr
+classed e label a b next hop =
     record {
       «src_addr» = a;
       «ll_src_addr» = source;
@@ -52,10 +53,14 @@ header a b next hop =
       «ll_dst_addr» = destination;
       «next_header» = Uncompressed (record { 0 = next });
       «hop_limit» = hop;
-      ecn = ByteField.None;
+      ecn = e;
       dscp = ByteField.None;
-      «flow_label» = WordField.None;
+      «flow_label» = label;
     }
+
+-- and with none
+abbrev header : Ipv6Addr → Ipv6Addr → ℕ → ℕ → IphcRepr.Repr
+header = classed ByteField.None LabelField.None
 
 -- fe80::211:2233:4455:6677
 abbrev from : Ipv6Addr
@@ -136,3 +141,8 @@ marked =
       k12-held = k12-held;
       k12-gone = k12-gone;
     }
+
+-- 02, item 1: "With TF=01 the bytes 4a bc de must give ecn 40 (bits 01) and label abcde"; fe80::211:2233:4455:6677 to fe80::ff:fe00:abcd, next
+-- 58, hop 255, 6 bytes
+pub whole-label : reads source (0x6b ∷ 0x33 ∷ 0x4a ∷ 0xbc ∷ 0xde ∷ 0x3a ∷ []) ≡ got (classed (ByteField.Some 0x40) (LabelField.Some (record { 0 = 0xabcde })) from (ip 0xfe80_0000_0000_0000 0x0000_00ff_fe00_abcd) 58 255) 6
+whole-label = labels .0

@@ -2,6 +2,7 @@
 // brings the space before it.
 use ieee802154::Address;
 use ieee802154::AddressField;
+use iphc::LabelField;
 use octets::field::ByteField;
 use octets::field::WordField;
 use octets::ipv6::Ipv6Addr;
@@ -69,6 +70,16 @@ pub fn optional_word(out: &mut [u8], to: usize, x: WordField) -> usize {
     match x {
         WordField::None => none(out, to),
         WordField::Some(v) => word(out, to, v),
+    }
+}
+
+pub fn optional_label(out: &mut [u8], to: usize, x: LabelField) -> usize {
+    match x {
+        LabelField::None => none(out, to),
+        LabelField::Some(l) => {
+            let n = print::put(out, to, b' ');
+            print::hex(out, n, l.0 as u64, 5)
+        }
     }
 }
 

@@ -32,7 +32,7 @@ fn back(out: &mut [u8], to: usize, r: Repr) -> usize {
     let dst = r.ll_dst_addr;
     let mut n = answer::optional_byte(out, to, ecn);
     n = answer::optional_byte(out, n, dscp);
-    n = answer::optional_word(out, n, flow);
+    n = answer::optional_label(out, n, flow);
     n = answer::link(out, n, src);
     answer::link(out, n, dst)
 }
@@ -101,7 +101,7 @@ fn repr(line: &[u8], from: usize) -> ReprText {
     let hop = fields::byte(line, next.next);
     let ecn_text = fields::optional_byte(line, hop.next);
     let dscp_text = fields::optional_byte(line, ecn_text.next);
-    let flow = fields::optional_word(line, dscp_text.next);
+    let flow = fields::optional_label(line, dscp_text.next);
     let ll_src = fields::link(line, flow.next);
     let ll_dst = fields::link(line, ll_src.next);
     let src_addr = src.value;

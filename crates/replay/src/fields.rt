@@ -5,6 +5,8 @@ use ieee802154::Address;
 use ieee802154::AddressField;
 use ieee802154::Pan;
 use ieee802154::PanField;
+use iphc::FlowLabel;
+use iphc::LabelField;
 use octets::field::ByteField;
 use octets::field::WordField;
 use octets::ipv6::Ipv6Addr;
@@ -30,6 +32,11 @@ pub struct ByteText {
 
 pub struct WordText {
     pub value: WordField,
+    pub next: usize,
+}
+
+pub struct LabelText {
+    pub value: LabelField,
     pub next: usize,
 }
 
@@ -123,6 +130,21 @@ pub fn optional_word(line: &[u8], from: usize) -> WordText {
     let n = word(line, from);
     WordText {
         value: WordField::Some(low16(n.value)),
+        next: n.next,
+    }
+}
+
+// A flow label: 5 digits.
+pub fn optional_label(line: &[u8], from: usize) -> LabelText {
+    if at(line, from) == b'-' {
+        return LabelText {
+            value: LabelField::None,
+            next: behind_one(line, from),
+        };
+    }
+    let n = number(line, from, 5);
+    LabelText {
+        value: LabelField::Some(FlowLabel((n.value % 0x10_0000) as u32)),
         next: n.next,
     }
 }

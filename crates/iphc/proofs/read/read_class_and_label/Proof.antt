@@ -13,20 +13,20 @@ enum-known-b c = search needs
 byte-requires-2 : tie.Need-byte-requires-2
 byte-requires-2 c κs = search needs
 
-enum-known-e : tie.Need-enum-known-e
-enum-known-e c = search needs
+enum-known-high : tie.Need-enum-known-high
+enum-known-high c = search needs
 
-mul-t13 : tie.Need-mul-t13
-mul-t13 c = search needs
+mul-t14 : tie.Need-mul-t14
+mul-t14 c = search needs
 
 read-label-requires : tie.Need-read-label-requires
 read-label-requires c κs = search needs
 
+enum-known-e : tie.Need-enum-known-e
+enum-known-e c = search needs
+
 enum-known-e-2 : tie.Need-enum-known-e-2
 enum-known-e-2 c = search needs
-
-enum-known-e-3 : tie.Need-enum-known-e-3
-enum-known-e-3 c = search needs
 
 returns : tie.Need-returns
 unfolding classAndLabel
@@ -47,11 +47,11 @@ read-class-and-label-spec =
     byte-requires
     enum-known-b
     byte-requires-2
-    enum-known-e
-    mul-t13
+    enum-known-high
+    mul-t14
     read-label-requires
+    enum-known-e
     enum-known-e-2
-    enum-known-e-3
     returns
     returns-2
     returns-3)
