@@ -5,18 +5,18 @@ ghost use lib.ListN.{length};
 ghost use Rattle.expand.specs.Sum.{sumWords, udpChecksum, summedIn};
 use octets::write::put_be16;
 
-fn wide(x: u8) -> u64
+fn wide(x: u8) -> u32
     ensures { λ r. ⌜ (r ≡ x) × (r < 256) ⌝ }
 {
-    x as u64
+    x as u32
 }
 
-// The plain sum of at most 32,767 words of 16 bits.
-fn sum_words(s: &[u8]) -> u64
+// The plain sum of at most 32,767 words of 16 bits: below 2^31, so that two such sums, a length and 17 are below 2^32.
+fn sum_words(s: &[u8]) -> u32
     requires { ⌜ length (now s) ≤ 65534 ⌝ }
     ensures { λ r. ⌜ (r ≡ sumWords (now (s .entry))) × (r ≤ 65534 * 32768) ⌝ }
 {
-    let mut x: u64 = 0;
+    let mut x: u32 = 0;
     let mut i: usize = 0;
     while i + 1 < s.len() {
         x = x + (wide(s[i]) * 256 + wide(s[i + 1]));
@@ -30,7 +30,7 @@ fn checksum(d: &[u8]) -> u16
     requires { ⌜ (48 ≤ length (now d)) × (length (now d) ≤ 65575) ⌝ }
     ensures { λ r. ⌜ r ≡ udpChecksum (now (d .entry)) ⌝ }
 {
-    let x = sum_words(&d[8..46]) + sum_words(&d[48..]) + ((d.len() - 40) as u64) + 17;
+    let x = sum_words(&d[8..46]) + sum_words(&d[48..]) + ((d.len() - 40) as u32) + 17;
     let y = x / 65536 + x % 65536;
     let z = y / 65536 + y % 65536;
     if z == 65535 {

@@ -35,6 +35,9 @@ add-x c = search needs
 sub-x : tie.Need-sub-x
 sub-x c = search needs
 
+cast-x : tie.Need-cast-x
+cast-x c = search needs
+
 add-x-2 : tie.Need-add-x-2
 add-x-2 c = search needs
 
@@ -84,6 +87,7 @@ checksum-spec =
     sum-words-requires-2
     add-x
     sub-x
+    cast-x
     add-x-2
     add-x-3
     add-y
