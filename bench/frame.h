@@ -150,7 +150,7 @@ static bool read_traffic(struct rest *r, unsigned tf, uint8_t *ip) {
   unsigned class = tf == 3 ? 0 : p[0] >> 6;
   if (tf == 0 || tf == 2) class |= (p[0] & 0x3fu) << 2;
   ip[0] = (uint8_t)(0x60 | class >> 4);
-  ip[1] = (uint8_t)(class << 4);
+  ip[1] = (uint8_t)(class << 4 | (tf < 2 ? p[carried[tf] - 3] & 0x0fu : 0));
   ip[2] = tf < 2 ? p[carried[tf] - 2] : 0;
   ip[3] = tf < 2 ? p[carried[tf] - 1] : 0;
   return true;

@@ -9,6 +9,7 @@ use std::time::Instant;
 
 use crate::oracle::answer::{ext_number, listed, silence_panics};
 use crate::oracle::generate;
+use crate::oracle::rules;
 use crate::oracle::text::Fields;
 use crate::wire::ieee802154::{self, Address, Pan};
 use crate::wire::ip::Protocol;
