@@ -1,4 +1,6 @@
-// Reads a capture on standard input and prints a line for each frame (the scope document, "Capture blocks and the program").
+// Reads a capture on standard input, or from the file that its one argument names, and prints a line for each frame (the scope
+// document, "Capture blocks and the program"). What the system does not let it read or write it says in a line on standard error:
+// that is not the end of a capture, so the lines so far stand and no `end` follows.
 //
 // What the blocks say is the library's (`listen::hear_all`); here they are read, up to 128 at a time, and their lines written.
 // No line is longer than 46 bytes, so that the text has room for all lines of one read.
@@ -26,11 +28,30 @@ fn upto(s: &[u8], n: usize) -> &[u8] {
     s
 }
 
+// Writes text to standard output, or says why it cannot.
+fn write(text: &[u8]) -> bool {
+    let sent = io::write_all(libc::STDOUT_FILENO, text);
+    if !sent {
+        os::fail(b"heard: the lines cannot be written");
+    }
+    sent
+}
+
+// Says why the capture cannot be read on. The run is over, without a last line.
+fn unread(ear: Ear) -> Kept {
+    os::fail(b"heard: the capture cannot be read");
+    Kept {
+        ear,
+        have: 0,
+        more: false,
+    }
+}
+
 // Puts the last line and writes the text out. The run is over.
 fn finish(h: Heard, text: &mut [u8]) -> Kept {
     let ear = h.ear;
     let end = put_end(text, h.next, ear.frames);
-    io::write_all(1, upto(text, end));
+    write(upto(text, end));
     Kept {
         ear,
         have: 0,
@@ -57,7 +78,7 @@ fn pass_on(h: Heard, input: &mut [u8], whole: usize, rest: usize, text: &mut [u8
     }
     line::shift(&mut input[0..whole + rest], whole);
     let ear = h.ear;
-    let sent = io::write_all(1, upto(text, h.next));
+    let sent = write(upto(text, h.next));
     Kept {
         ear,
         have: rest,
@@ -81,14 +102,24 @@ fn heard(
 }
 
 // Reads once, and hears the blocks that are whole.
-fn turn(k: Kept, input: &mut [u8], mem: &mut [u8], out: &mut [u8], text: &mut [u8]) -> Kept {
+fn turn(
+    k: Kept,
+    fd: i32,
+    input: &mut [u8],
+    mem: &mut [u8],
+    out: &mut [u8],
+    text: &mut [u8],
+) -> Kept {
     let have = k.have;
     let ear = k.ear;
     if input.len() <= have {
         return last(ear, input, mem, out, text);
     }
-    let got = libc::read(0, &mut input[have..]);
-    if got <= 0 {
+    let got = libc::read(fd, &mut input[have..]);
+    if got < 0 {
+        return unread(ear);
+    }
+    if got == 0 {
         return last(ear, upto(input, have), mem, out, text);
     }
     let n = io::count(got, input);
@@ -99,7 +130,7 @@ fn turn(k: Kept, input: &mut [u8], mem: &mut [u8], out: &mut [u8], text: &mut [u
 }
 
 // Nothing says that the input ends, so the turns are counted down from a number that no run uses up.
-fn run(input: &mut [u8], mem: &mut [u8], out: &mut [u8], text: &mut [u8]) {
+fn run(fd: i32, input: &mut [u8], mem: &mut [u8], out: &mut [u8], text: &mut [u8]) {
     let ear = Ear::new();
     let mut k = Kept {
         ear,
@@ -108,7 +139,7 @@ fn run(input: &mut [u8], mem: &mut [u8], out: &mut [u8], text: &mut [u8]) {
     };
     let mut turns = u64::MAX;
     while 0 < turns {
-        k = turn(k, input, mem, out, text);
+        k = turn(k, fd, input, mem, out, text);
         if !k.more {
             return;
         }
@@ -116,10 +147,53 @@ fn run(input: &mut [u8], mem: &mut [u8], out: &mut [u8], text: &mut [u8]) {
     }
 }
 
+// Says what is wanted. There is nothing to read.
+fn usage() -> i32 {
+    io::write_all(libc::STDERR_FILENO, b"usage: heard [CAPTURE]\n");
+    -1
+}
+
+// Opens the file that the first argument names, or says why it cannot. `path` is room for the name.
+fn named(path: &mut [u8]) -> i32 {
+    let n = os::arg(1, path);
+    if os::errno() != 0 {
+        return usage();
+    }
+    let name = upto(path, n);
+    if name.len() == 0 {
+        return usage();
+    }
+    if name[0] == b'-' {
+        return usage();
+    }
+    let fd = os::open_read(name);
+    if fd < 0 {
+        os::fail(name);
+    }
+    fd
+}
+
+// What to read: standard input, or the file that the one argument names; below 0 where there is none, and that has been said.
+fn source() -> i32 {
+    let words = os::arg_count();
+    if words < 2 {
+        return libc::STDIN_FILENO;
+    }
+    if 2 < words {
+        return usage();
+    }
+    let mut path = io::buffer();
+    named(&mut path)
+}
+
 fn main() {
+    let fd = source();
+    if fd < 0 {
+        return;
+    }
     let mut input = io::large_buffer();
     let mut mem = [0u8; 16384];
     let mut out = [0u8; 2047];
     let mut text = io::large_buffer();
-    run(&mut input, &mut mem, &mut out, &mut text);
+    run(fd, &mut input, &mut mem, &mut out, &mut text);
 }

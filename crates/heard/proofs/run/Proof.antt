@@ -6,10 +6,10 @@ use Rattle.heard.proofs.run.Statement.{statement}
 use Rattle.heard.proofs.run.Tie as tie
 
 abbrev Inv-loop : tie.InvT-loop
-Inv-loop input₀ mem₀ out₀ text₀ k₀ turns₀ input mem out text k turns = (length input ≡ length input₀) × (length mem ≡ length mem₀) × (length out ≡ length out₀) × (length text ≡ length text₀)
+Inv-loop fd input₀ mem₀ out₀ text₀ k₀ turns₀ input mem out text k turns = (length input ≡ length input₀) × (length mem ≡ length mem₀) × (length out ≡ length out₀) × (length text ≡ length text₀)
 
 abbrev μ-loop : tie.MeasureT-loop
-μ-loop input₀ mem₀ out₀ text₀ k₀ turns₀ input mem out text k turns = turns
+μ-loop fd input₀ mem₀ out₀ text₀ k₀ turns₀ input mem out text k turns = turns
 
 new-requires : tie.Need-new-requires Inv-loop μ-loop
 new-requires c κs = search needs
