@@ -38,6 +38,9 @@ extern "C" {
 #define LIFT_MEM_BYTES 16384u
 #define LIFT_OUT_BYTES 2047u
 
+/* What to pass with a length of 0, for contexts or a frame: the rules allow no null pointer. */
+#define LIFT_NONE ((const uint8_t *)"")
+
 /* A length. It crosses as 64 bits on every machine, 32-bit ones too, since that is the length of which the proofs speak; on 64-bit
  * machines it is size_t. A pointer is as wide as the machine's. */
 typedef uint64_t lift_len;
@@ -83,7 +86,7 @@ static inline uint32_t lift_begin(lift_table *t, const lift_gateway *gateways, l
  *   time          in milliseconds, from any beginning, and never falling: an earlier time than the last one is refused (8)
  *   frame         the MAC frame without its frame check, at most 127 bytes
  *   contexts      the address contexts of RFC 6282, 8 bytes each, by identifier from 0 on; a shorter rest is ignored.
- *                 With none, any non-null pointer and 0
+ *                 With none, LIFT_NONE and 0: null is not allowed, not even with a length of 0 (rule 1)
  *   mem           the memory for parts, LIFT_MEM_BYTES or more: the same bytes in every call for this table
  *   out           where a datagram goes, LIFT_OUT_BYTES or more
  *

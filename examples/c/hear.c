@@ -10,7 +10,6 @@
 static lift_table table;
 static uint8_t mem[LIFT_MEM_BYTES];
 static uint8_t out[LIFT_OUT_BYTES];
-static const uint8_t no_contexts[1];
 
 #define IN_ABCD LIFT_IN(LIFT_SHORT, 0xabcd)
 static const lift_gateway gateways[] = {{IN_ABCD, 0x0001}, {IN_ABCD, 0x0002}, {IN_ABCD, 0x0003}, {IN_ABCD, 0x0004}};
@@ -36,7 +35,7 @@ int main(int argc, char **argv) {
         return 1;
       }
       uint64_t time = place[0] | place[1] << 8 | place[2] << 16 | (uint64_t)place[3] << 24;
-      uint32_t answer = lift_receive(&table, time, place + 5, place[4], no_contexts, 0, mem, sizeof mem, out, sizeof out);
+      uint32_t answer = lift_receive(&table, time, place + 5, place[4], LIFT_NONE, 0, mem, sizeof mem, out, sizeof out);
       n++;
       switch (lift_kind(answer)) {
         case LIFT_KEPT:
