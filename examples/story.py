@@ -16,7 +16,7 @@ sys.dont_write_bytecode = True
 sys.path.insert(0, str(TOP / "tests"))
 import model  # noqa: E402
 
-GATEWAYS = "gateways s0001 s0002 s0003 s0004"     # those of `heard`, as a line of `calls`
+GATEWAYS = "gateways s0001@abcd s0002@abcd s0003@abcd s0004@abcd"     # those of `heard`, as a line of `calls`
 ROOMS = f"- {model.LENT_BYTES} {model.OUTPUT_BYTES}"
 
 
@@ -24,7 +24,7 @@ ROOMS = f"- {model.LENT_BYTES} {model.OUTPUT_BYTES}"
 class Frame:
     number: int
     time: int
-    source: str = "?"              # as `calls` writes an address: s and 4 digits, e and 16, a for absent, ? unknown
+    source: str = "?"              # as `calls` writes an address: s and 4 digits, e and 16, a for absent; @ and the PAN
     destination: str = "?"
     size: int = 0                  # of its datagram; 0 where the frame is no part
     tag: int = 0
@@ -49,14 +49,14 @@ class Datagram:
     until: int
 
 
-def name(address):
-    """An address for people: 0001, 00:11:22:33:44:55:66:77, `absent`, or `?` where the headers could not be read."""
+def name(address, with_pan=True):
+    """An address for people: 0001@abcd, 00:11:22:33:44:55:66:77, `absent`, or `?` where the headers could not be read."""
     if address == "?":
         return address
-    digits = address[1:]
-    if len(digits) != 16:
-        return digits or "absent"
-    return ":".join(digits[i:i + 2] for i in range(0, 16, 2))
+    digits, at, pan = address[1:].partition("@")
+    if len(digits) == 16:
+        digits = ":".join(digits[i:i + 2] for i in range(0, 16, 2))
+    return (digits or "absent") + (at + pan if with_pan else "")
 
 
 def frames_of(data):
@@ -76,7 +76,7 @@ def look(frame, data):
         mac = model.through_relays(model.read_mac(data), data)
         if mac.src is None or mac.dst is None:
             return
-        frame.source, frame.destination = model.address_text(mac.src), model.address_text(mac.dst)
+        frame.source, frame.destination = model.sender_text(model.sender_of(mac)), model.address_text(mac.dst)
         payload = data[mac.length:]
         if model.dispatch(payload) != "fragment":
             return

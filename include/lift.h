@@ -167,8 +167,10 @@ lift_len lift_held(const lift_table *t, uint64_t kind, uint64_t value);
 typedef char lift_table_has_1192_bytes[sizeof(lift_table) == 1192 ? 1 : -1];
 typedef char lift_gateway_has_16_bytes[sizeof(lift_gateway) == 16 ? 1 : -1];
 typedef char lift_len_has_8_bytes[sizeof(lift_len) == 8 ? 1 : -1];
-#if defined(__STDC_VERSION__) && __STDC_VERSION__ >= 201112L
-_Static_assert(_Alignof(lift_table) == 8, "a table is aligned to 8");
-#endif
+struct lift_table_behind_a_byte {
+  char byte;
+  lift_table table;
+};
+typedef char lift_table_is_aligned_to_8[offsetof(struct lift_table_behind_a_byte, table) == 8 ? 1 : -1];
 
 #endif

@@ -4,7 +4,7 @@
 The pictures are as drawn; the paths that the pages name are there; the numbers and names of refusals agree between
 docs/REFUSALS.md, include/lift.h and the crate octets; the theorems of docs/PROMISES.md are there; the groups of docs/ARCHITECTURE.md are those of crates.txt; the
 example programs say what is wrong with their input in one line; `summary` says what was worked out by hand; lift.h
-refuses machines with short pointers. What wants a compiler or `heard` is skipped where that is missing.
+refuses machines that would lay out a table in another way. What wants a compiler or `heard` is skipped where that is missing.
 """
 
 import pathlib
@@ -86,13 +86,13 @@ def groups():
 
 SUMMARIES = {
     "two-gateways": """ frame  source                   bytes  tag       ms  frames it came from
-    11  0001                       400  0007      60  1,3,5,7,9,11
-    12  0002                       400  0007      60  2,4,6,8,10,12
+    11  0001@abcd                  400  0007      60  1,3,5,7,9,11
+    12  0002@abcd                  400  0007      60  2,4,6,8,10,12
 2 datagrams out of 12 frames
 """,
     "damaged": """ frame  source                   bytes  tag       ms  frames it came from
-    12  0001                       136  0008      40  7,11-12
-    13  0002                        60  -          0  13
+    12  0001@abcd                  136  0008      40  7,11-12
+    13  0002@abcd                   60  -          0  13
 2 datagrams out of 14 frames
 refused  1 bytes end too soon                       1
 refused  2 not 6LoWPAN as taken here                1
@@ -104,9 +104,9 @@ refused 13 secured, not Data, or extension header   1
 block 5 is bad (15); what follows it was not read
 """,
     "witness": """ frame  source                   bytes  tag       ms  frames it came from
-     3  0001                        64  0007      12  1,3
-     4  0002                        64  0007      12  2,4
-     7  0001                        64  0007   59999  5-7
+     3  0001@abcd                   64  0007      12  1,3
+     4  0002@abcd                   64  0007      12  2,4
+     7  0001@abcd                   64  0007   59999  5-7
 3 datagrams out of 7 frames
 """,
 }
@@ -172,8 +172,10 @@ def c_face(folder):
         done = run(["cc", *words])
         expect(done.returncode == 0 or "cc1plus" in done.stderr, f"lift.h as {standard}: {done.stderr}")
         if shutil.which("clang"):
-            done = run(["clang", "-m32", "-ffreestanding", *words])
-            expect("pointers of 64 bits" in done.stderr, f"lift.h as {standard} where pointers have 32 bits: {done.stderr}")
+            done = run(["clang", "--target=i386-linux", "-ffreestanding", *words])
+            expect("lift_table_is_aligned_to_8" in done.stderr, f"lift.h as {standard} where numbers of 64 bits are aligned to 4: {done.stderr}")
+            done = run(["clang", "--target=thumbv7m-none-eabi", "-ffreestanding", *words])
+            expect(done.returncode == 0, f"lift.h as {standard} on Cortex-M: {done.stderr}")
 
 
 def main():
