@@ -35,19 +35,6 @@ void __aeabi_memset8(void *, size_t, int) __attribute__((alias("__aeabi_memset")
 void __aeabi_memclr4(void *, size_t) __attribute__((alias("__aeabi_memclr")));
 void __aeabi_memclr8(void *, size_t) __attribute__((alias("__aeabi_memclr")));
 
-#if __ARM_ARCH == 6 /* an M0 has no shift of 64 bits */
-uint64_t __aeabi_llsl(uint64_t value, int by) {
-  const uint32_t low = (uint32_t)value, high = (uint32_t)(value >> 32);
-  if (by >= 32) return (uint64_t)(low << (by - 32)) << 32;
-  return by ? (uint64_t)(high << by | low >> (32 - by)) << 32 | low << by : value;
-}
-uint64_t __aeabi_llsr(uint64_t value, int by) {
-  const uint32_t low = (uint32_t)value, high = (uint32_t)(value >> 32);
-  if (by >= 32) return high >> (by - 32);
-  return by ? (uint64_t)(high >> by) << 32 | (low >> by | high << (32 - by)) : value;
-}
-#endif
-
 /* ---- semihosting */
 static int semihost(int operation, const void *block) {
   register int r0 __asm__("r0") = operation;

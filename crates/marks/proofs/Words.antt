@@ -99,11 +99,6 @@ unpack-at (w ∷ ws) (suc q) j hj hq =
     let n : suc q * 64 + j ≡ length (bits 64 w) + (q * 64 + j) = omega arith in
     ap (λ (x : ℕ). getD (bits 64 w ++ unpack ws) x false) n ∙ getD-append-add (bits 64 w) (unpack ws) (q * 64 + j) false ∙ unpack-at ws q j hj (le-of-suc-le-suc hq)
 
-pub marked-is : (ws : List ℕ) (u : ℕ) → length ws ≡ 4 → u < 256 → eqb (getD ws (u / 64) 0 / 2 ^ (u % 64) % 2) 1 ≡ getD (unpack ws) u false
-marked-is ws u h hu =
-    let n : u / 64 * 64 + u % 64 ≡ u = omega arith in
-    sym (digit-shift (getD ws (u / 64) 0) (u % 64)) ∙ sym (unpack-at ws (u / 64) (u % 64) (omega arith) (omega arith)) ∙ ap (λ (x : ℕ). getD (unpack ws) x false) n
-
 -- ---- a mark in a range, by its place in the range
 
 pub has-none : (b : Bool) (l : List Bool) (u n : ℕ) → hasIn b l u n ≡ false → (d : ℕ) → d < n → same (getD l (u + d) false) b ≡ false
@@ -396,6 +391,24 @@ words-fit (x ∷ xs) (u ∷ us) g (suc i) = words-fit xs us (g .1) i
 pub or-no : (x : Bool) → choose x true false ≡ x
 or-no true = refl
 or-no false = refl
+
+-- one mark: the bit of its place against its word
+one-has : (l : List Bool) (k : ℕ) → hasIn true l k 1 ≡ getD l k false
+unfolding hasIn
+one-has l k = ap (λ (x : Bool). choose x true false) (same-true (getD l k false)) ∙ or-no (getD l k false)
+
+one-bit : (w k : ℕ) → k < 64 → w < 2 ^ 64 → not (eqb (bitAnd w (2 ^ k)) 0) ≡ digit w k
+one-bit w k h f =
+    let p : 2 ^ suc k ≡ 2 ^ k * 2 = pow-suc 2 k in
+    let e : 2 ^ suc k - 2 ^ k ≡ 2 ^ k = omega arith in
+    let n : suc k - k ≡ 1 = omega arith in
+    rw (e, n) at (word-true w k (suc k) (omega arith) h f) ∙ one-has (bits 64 w) k ∙ getD-bits 64 w k h
+
+pub marked-is : (ws : List ℕ) (u : ℕ) → length ws ≡ 4 → ((i : ℕ) → getD ws i 0 < 2 ^ 64) → u < 256
+    → not (eqb (bitAnd (getD ws (u / 64) 0) (2 ^ (u % 64))) 0) ≡ getD (unpack ws) u false
+marked-is ws u h f hu =
+    let n : u / 64 * 64 + u % 64 ≡ u = omega arith in
+    one-bit (getD ws (u / 64) 0) (u % 64) (omega arith) (f (u / 64)) ∙ sym (unpack-at ws (u / 64) (u % 64) (omega arith) (omega arith)) ∙ ap (λ (x : ℕ). getD (unpack ws) x false) n
 
 pub unpack-fill : (ws : List ℕ) (u n : ℕ) → length ws ≡ 4 → unpack (pack (fill u n (unpack ws))) ≡ fill u n (unpack ws)
 unpack-fill ws u n h =

@@ -5,9 +5,21 @@
 // a fact on the marks fixes the words. A unit from 256 on has no mark, and marking it changes nothing.
 ghost use mathlib.Core.Bool.{true, false};
 ghost use mathlib.Core.Path.{_≡_};
-ghost use Prim.Native.Nat.{_-_, _^_, _≤_};
+ghost use Prim.Native.Nat.{_-_, _^_, _<_, _≤_};
 ghost use lib.ListN.{getD};
 ghost use Rattle.marks.specs.Marks.{hasIn, fill, bits, unpack, pack, within};
+
+// The word of which bit h alone is set. Only numbers of 32 bits are shifted by a number that is not fixed: a controller of 32
+// bits has that shift, and would call a routine for one of 64.
+fn bit(h: usize) -> u64
+    requires { ⌜ h < 64 ⌝ }
+    ensures { λ r. ⌜ r ≡ 2 ^ h ⌝ }
+{
+    if h < 32 {
+        return (1u32 << h) as u64;
+    }
+    ((1u32 << (h - 32)) as u64) * 4294967296
+}
 
 // The h low bits set.
 fn below(h: usize) -> u64
@@ -15,7 +27,7 @@ fn below(h: usize) -> u64
     ensures { λ r. ⌜ r ≡ 2 ^ h - 1 ⌝ }
 {
     if h < 64 {
-        return (1u64 << h) - 1;
+        return bit(h) - 1;
     }
     18446744073709551615
 }
@@ -84,7 +96,7 @@ pub fn marked(m: [u64; 4], u: usize) -> bool
     if 256 <= u {
         return false;
     }
-    (m[u / 64] >> (u % 64)) % 2 == 1
+    m[u / 64] & bit(u % 64) != 0
 }
 
 // Marks the units from u up to, not including, e.

@@ -1,7 +1,7 @@
 use mathlib.Core.Path.{sym}
 use native.Mathlib.Omega.{arith}
 use Rattle.marks.specs.Marks.{unpack}
-use Rattle.marks.proofs.Words.{marked-is, past-none, length-unpack}
+use Rattle.marks.proofs.Words.{marked-is, words-fit, past-none, length-unpack}
 use borrow.Author.Needs.{needs}
 use Rattle.marks.proofs.marked.Statement.{statement}
 use Rattle.marks.proofs.marked.Tie as tie
@@ -18,11 +18,13 @@ mul-result c = search needs
 array-read-result : tie.Need-array-read-result
 array-read-result c = search needs
 
-shr-result : tie.Need-shr-result
-shr-result c = search needs
+bit-requires : tie.Need-bit-requires
+bit-requires c κs = search needs
 
 returns-2 : tie.Need-returns-2
-returns-2 c = marked-is (c .before .args .t1) (c .before .args .u) (c .before .good .0 .1 .0 .1) (c .if1 .left)
+returns-2 c =
+    let b = c .before .before in
+    rw (c .bit .ensures) (marked-is (b .args .t1) (b .args .u) (b .good .0 .1 .0 .1) (words-fit (b .args .t1) (b .good .0 .0) (b .good .0 .1 .1)) (c .before .if1 .left))
 
 pub marked-spec : {M : Type 1} → statement M
-marked-spec = tie.close (tie.spec returns mul-result array-read-result shr-result returns-2)
+marked-spec = tie.close (tie.spec returns mul-result array-read-result bit-requires returns-2)
