@@ -135,7 +135,7 @@ int main(int argc, char **argv) {
   }
   fclose(file);
 #ifdef __arm__
-  printf("stack lift_begin %u lift_receive %u lift_free %u lift_held %u\n", begin_stack, receive_stack, free_stack, held_stack);
+  printf("stack lift_begin_flat %u lift_receive %u lift_free %u lift_held %u\n", begin_stack, receive_stack, free_stack, held_stack);
 #endif
   return 0;
 }
