@@ -77,9 +77,11 @@ def groups():
         if line.startswith("# ") and ":" not in line:
             group = line[2:]
         elif not line.startswith("#") and line:
-            listed.setdefault(group, set()).add(line.partition(":")[0])
+            listed[line.partition(":")[0]] = group
     rows = re.findall(r"^\| (\w+) \| ((?:`\w+`(?:, )?)+) \|", (TOP / "docs/ARCHITECTURE.md").read_text(), re.M)
-    expect({name: set(re.findall(r"\w+", crates)) for name, crates in rows} == listed, f"crates.txt has the groups {listed}")
+    told = {crate: name for name, crates in rows for crate in re.findall(r"\w+", crates)}
+    for crate in sorted(set(told) | set(listed)):
+        expect(told.get(crate) == listed.get(crate), f"{crate}: under {told.get(crate)} in ARCHITECTURE.md, {listed.get(crate)} in crates.txt")
 
 
 # --------------------------------------------------------------------------------------------------------- the programs
@@ -179,7 +181,7 @@ def c_face(folder):
 
 
 def main():
-    for test in (pictures, paths, refusals, theorems, summaries, make_capture):
+    for test in (pictures, paths, refusals, theorems, groups, summaries, make_capture):
         test()
     if HEARD.exists():
         heard()
