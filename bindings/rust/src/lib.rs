@@ -48,14 +48,15 @@ pub const OUT_BYTES: usize = 2_047;
 pub type Context = [u8; 8];
 
 // SAFETY: these are include/lift.h's declarations; the numbers, `&` and `&mut` are as the archive has them, and a pointer
-// with a length beside it is a slice in two halves. The two that take no pointer can be called with anything.
+// with a length beside it is a slice in two halves. Lengths cross as 64 bits on every machine. The two that take no pointer
+// can be called with anything.
 unsafe extern "C" {
-    fn lift_begin_flat(t: &mut Raw, gateways: *const Gateway, numbers: usize) -> u32;
+    fn lift_begin_flat(t: &mut Raw, gateways: *const Gateway, numbers: u64) -> u32;
     #[rustfmt::skip]
-    fn lift_receive(t: &mut Raw, time: u64, frame: *const u8, frame_len: usize, contexts: *const u8, contexts_len: usize,
-        mem: *mut u8, mem_len: usize, out: *mut u8, out_len: usize) -> u32;
-    safe fn lift_free(t: &Raw) -> usize;
-    safe fn lift_held(t: &Raw, kind: u64, value: u64) -> usize;
+    fn lift_receive(t: &mut Raw, time: u64, frame: *const u8, frame_len: u64, contexts: *const u8, contexts_len: u64,
+        mem: *mut u8, mem_len: u64, out: *mut u8, out_len: u64) -> u32;
+    safe fn lift_free(t: &Raw) -> u64;
+    safe fn lift_held(t: &Raw, kind: u64, value: u64) -> u64;
 }
 
 /// `lift_table`.
@@ -64,6 +65,9 @@ unsafe extern "C" {
 struct Raw {
     words: [u64; 149],
 }
+
+// A target that would lay these out in another way than the archive does not compile.
+const _: () = assert!(size_of::<Raw>() == 1192 && align_of::<Raw>() == 8 && size_of::<Gateway>() == 16);
 
 /// A sender that a table takes frames from, by its link-layer address and its PAN. `short` and `extended` make one with no
 /// PAN, which is a value of its own and stands for no other.
@@ -200,7 +204,7 @@ impl Table {
     pub fn begin(&mut self, gateways: &[Gateway]) -> Result<(), Refusal> {
         // SAFETY: a `Gateway` is its numbers one behind the other (`repr(C)`), so the slice is so many times as many
         // numbers; it is read while it is borrowed, and `&mut` keeps the table, zero at first and private, apart from it.
-        let answer = unsafe { lift_begin_flat(&mut self.raw, gateways.as_ptr(), gateways.len() * Gateway::NUMBERS) };
+        let answer = unsafe { lift_begin_flat(&mut self.raw, gateways.as_ptr(), (gateways.len() * Gateway::NUMBERS) as u64) };
         if answer == 0 { Ok(()) } else { Err(Refusal::from_number(answer as u16)) }
     }
 
@@ -215,7 +219,7 @@ impl Table {
         // SAFETY: each pointer comes from a borrow of the length beside it, never null and never over `isize::MAX` bytes.
         // What is written (table, memory, output) is borrowed with `&mut`, so that it overlaps nothing; the table was
         // zero before its first `lift_begin` and, like its memory, is private.
-        let answer = unsafe { lift_receive(&mut self.raw, time, frame.as_ptr(), frame.len(), flat.as_ptr(), flat.len(), mem.as_mut_ptr(), mem.len(), room.as_mut_ptr(), room.len()) };
+        let answer = unsafe { lift_receive(&mut self.raw, time, frame.as_ptr(), frame.len() as u64, flat.as_ptr(), flat.len() as u64, mem.as_mut_ptr(), mem.len() as u64, room.as_mut_ptr(), room.len() as u64) };
         let number = answer as u16;
         match answer >> 16 {
             0 => Ok(Outcome::Kept),
@@ -226,12 +230,12 @@ impl Table {
 
     /// How many of the eight slots are free. Slots that have grown old count as held until the next frame.
     pub fn free(&self) -> usize {
-        lift_free(&self.raw)
+        lift_free(&self.raw) as usize
     }
 
     /// How many slots a gateway holds, 0 to 3.
     pub fn held(&self, gateway: Gateway) -> usize {
-        lift_held(&self.raw, gateway.kind, gateway.value)
+        lift_held(&self.raw, gateway.kind, gateway.value) as usize
     }
 }
 
