@@ -171,6 +171,6 @@ struct lift_table_behind_a_byte {
   char byte;
   lift_table table;
 };
-typedef char lift_table_is_aligned_to_8[offsetof(struct lift_table_behind_a_byte, table) == 8 ? 1 : -1];
+typedef char lift_table_is_aligned_to_8[sizeof(struct lift_table_behind_a_byte) == 1192 + 8 ? 1 : -1];
 
 #endif

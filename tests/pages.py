@@ -176,7 +176,7 @@ def c_face(folder):
         if shutil.which("clang"):
             done = run(["clang", "--target=i386-linux", "-ffreestanding", *words])
             expect("lift_table_is_aligned_to_8" in done.stderr, f"lift.h as {standard} where numbers of 64 bits are aligned to 4: {done.stderr}")
-            done = run(["clang", "--target=thumbv7m-none-eabi", "-ffreestanding", *words])
+            done = run(["clang", "--target=thumbv7m-none-eabi", "-ffreestanding", "-nostdinc", "-isystem", "examples/bare", *words])
             expect(done.returncode == 0, f"lift.h as {standard} on Cortex-M: {done.stderr}")
 
 
