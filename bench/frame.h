@@ -85,6 +85,38 @@ static uint64_t read_mac(struct rest *r, struct mac *m) {
   return secured || type != 1 ? NOT_TAKEN : 0;
 }
 
+// The relays' headers: a mesh header, whose originator and final address stand for the MAC's, and a broadcast header.
+
+// An address, most significant byte first.
+static bool read_relayed(struct rest *r, bool is_short, struct address *a) {
+  size_t n = is_short ? 2 : 8;
+  const uint8_t *p = take(r, n);
+  if (p == NULL) return false;
+  a->kind = is_short ? 1 : 2;
+  a->number = 0;
+  for (size_t i = 0; i < n; i++) a->number = a->number << 8 | p[i];
+  return true;
+}
+
+static uint64_t read_relays(struct rest *r, struct mac *m) {
+  for (unsigned seen = 0; r->left > 0;) {
+    uint8_t first = r->at[0];
+    if (first >> 6 == 2) {
+      if (seen != 0) return BAD_MODE;
+      seen = 1;
+      if (take(r, (first & 15) == 15 ? 2 : 1) == NULL) return CUT_SHORT;
+      if (!read_relayed(r, first & 0x20, &m->src.address) || !read_relayed(r, first & 0x10, &m->dst)) return CUT_SHORT;
+    } else if (first == 0x50) {
+      if (seen == 2) return BAD_MODE;
+      seen = 2;
+      if (take(r, 2) == NULL) return CUT_SHORT;
+    } else {
+      break;
+    }
+  }
+  return 0;
+}
+
 // IPHC and UDP NHC, expanded to an IPv6 header and a UDP header.
 
 struct contexts {
@@ -285,7 +317,7 @@ static uint64_t receive_at(struct table *t, uint64_t time, const struct frame_ca
   struct rest r = {f->frame.at, f->frame.size};
   struct contexts c = {f->contexts.at, f->contexts.size / 8};
   struct mac m;
-  if ((no = read_mac(&r, &m)) != 0) return no;
+  if ((no = read_mac(&r, &m)) != 0 || (no = read_relays(&r, &m)) != 0) return no;
   if (!is_gateway(t, &m.src)) return NOT_GATEWAY;
   if (m.dst.kind == 0) return NO_ADDRESS;
   if (r.left == 0) return CUT_SHORT;

@@ -127,7 +127,7 @@ pub enum Refusal {
     NoRoom,
     /// 8: the time is earlier than the last one taken.
     EarlierTime,
-    /// 9: the source is not a gateway of the table.
+    /// 9: the source with its PAN is not a gateway of the table.
     NotGateway,
     /// 10: a part that no datagram can have.
     BadPart,
@@ -154,7 +154,7 @@ impl Refusal {
         (Refusal::NoAddress, 6, "a needed link-layer address is absent"),
         (Refusal::NoRoom, 7, "the lent room is too small"),
         (Refusal::EarlierTime, 8, "the time is earlier than the last one taken"),
-        (Refusal::NotGateway, 9, "the source is not a gateway of the table"),
+        (Refusal::NotGateway, 9, "the source with its PAN is not a gateway of the table"),
         (Refusal::BadPart, 10, "a part that no datagram can have"),
         (Refusal::Clash, 11, "the part clashes with bytes taken"),
         (Refusal::NoSlot, 12, "no slot may be opened"),
