@@ -1,5 +1,6 @@
--- What demand 3 supposes can be met: two runs of `receive`, in bytes (Worked.antt), over any lent memory and any outputs that are long enough.
-use Prim.Native.Nat.{ℕ, _≤_}
+-- What demand 3 supposes can be met: runs of `receive`, in bytes (Worked.antt), over any lent memory and any outputs that are long enough, to a
+-- table of the gateway 0001 in PAN abcd and another: 0002 beside it, or 0001 in another building's PAN.
+use Prim.Native.Nat.{ℕ, _+_, _≤_}
 use native.Mathlib.Omega.{arith}
 use mathlib.Core.Path.{_≡_, refl, sym, ap, _∙_}
 use mathlib.Core.Logic.{inl, inr}
@@ -19,6 +20,7 @@ use Rattle.reassembly.specs.Slots.{noNode, noSource, sameNode, sameSource, addr
 use Rattle.reassembly.specs.Parts.{Part, Reply, kept, out, refused, told, ofOutcome, outputAfter, units, fitsIn, fits, finish, spans, repeatsIn, takenIn, full, place, offer}
 use Rattle.reassembly.specs.Table.{part, State, withSlots, slotsAt, land, whereKey, whereFree, offerAt, openAt, takePart, lentCall, step, Gives, comes, next, run}
 use Rattle.reassembly.specs.Fresh.{seats, fresh, sources, unfit, refusedList, Gateways, begun}
+use Rattle.reassembly.specs.declared.slot.Source.{Source}
 use Rattle.reassembly.specs.declared.slot.Key.{Key}
 use Rattle.reassembly.specs.declared.part.Outcome.{Outcome}
 use Rattle.reassembly.proofs.Fresh.{accepted}
@@ -35,15 +37,16 @@ use Rattle.ieee802154.specs.declared.addr.PanField.{PanField}
 use Rattle.reassembly.specs.declared.table.Gateway.{Gateway}
 use Rattle.receiver.proofs.Names.{frame-part}
 use Rattle.promises.proofs.Frames.{Fixed, fixed-begun, fixed-next, call-is, ran-left, as-calls, demand-3}
-use Rattle.promises.proofs.Worked.{gateways, key, last-month, this-month, resent, first-frame, elided-frame, later-frame, first-brings, later-brings}
+use Rattle.promises.proofs.Worked.{Other, neighbour, building, number, pan, gateways, old-key, new-key, last-month, this-month, resent, old-first, old-later, new-first, new-later, elided-frame, resent-later, first-brings, later-brings}
+
+abbrev listedAs : ℕ → ℕ → Gateway
+listedAs a p = record { addr = Short a; pan = PanField.Some (record { 0 = p }) }
 
 -- the gateways are a list that `Table::new` takes
-listed : Gateways gateways
+listed : (w : Other) → Gateways (gateways w)
 unfolding sources unfit refusedList count sameSource sameNode present addressed
-listed = accepted 2 (listedAs 1 ∷ listedAs 2 ∷ []) (lit≤ tt) refl
-  where
-    listedAs : ℕ → Gateway
-    listedAs a = record { addr = Short a; pan = PanField.Some (record { 0 = 0xabcd }) }
+listed neighbour = accepted 2 (listedAs 1 0xabcd ∷ listedAs 2 0xabcd ∷ []) (lit≤ tt) refl
+listed building = accepted 2 (listedAs 1 0xabcd ∷ listedAs 1 0x1234 ∷ []) (lit≤ tt) refl
 
 -- ---- calls as the specification answers them
 
@@ -75,217 +78,248 @@ turn σ o t s p = record {
   output = outputAfter ((step σ (part t p)) .reply) o;
 }
 
-name-of : (t : ℕ) (s : List ℕ) (p : Part) → frameCall gateways [] t s ≡ part t p → named s ≡ is (p .key)
-name-of t s p e = frame-part gateways [] t s t p e .name
+-- the two keys differ in their source: in its address, or in its PAN
+abbrev who : Key → ℕ
+who k = k .src .node .number + k .src .pan
 
--- a frame that names another key
-not-named : {X : Type 0} (s : List ℕ) (a b : Key) (i j : ℕ) → a .src .node .number ≡ i → b .src .node .number ≡ j → (i ≡ j → ⊥) → named s ≡ is a → named s ≡ is b → X
-not-named s a b i j p q ne e f = let z : a ≡ b = cc in absurd (ne (sym p ∙ ap (λ (k : Key). k .src .node .number) z ∙ q))
+apart : (w : Other) → who old-key ≡ who (new-key w) → ⊥
+apart neighbour e = let z : _≡_ {A = ℕ} 0xabcf 0xabd0 = e in omega arith
+apart building e = let z : _≡_ {A = ℕ} 0xabcf 0x1236 = e in omega arith
+
+-- a frame that names one names not the other
+not-named : {X : Type 0} (w : Other) (s : List ℕ) → named s ≡ is old-key → named s ≡ is (new-key w) → X
+not-named w s e f = let z : old-key ≡ new-key w = cc in absurd (apart w (ap who z))
 
 only : (p q : Part) → In p (q ∷ []) → p ≡ q
 only p q (inl z) = z
 only p q (inr z) = absurd z
 
-module _ (m : List ℕ) (enough : 16384 ≤ length m) (o : List ℕ) (room : 2047 ≤ length o) where
-  fixed₀ : Fixed gateways m (begun gateways m)
-  fixed₀ = fixed-begun gateways m listed enough
+-- ---- "Two gateways in one shaft, one still sending last month's patch, can pick the same tag and size"; "two buildings, one short address":
+-- the one sends last month's block, the other this month's, part by part in turn, the parts of the one in order and those of the other not
+abbrev old-high : Part
+old-high = high old-key last-month 7 false
 
-  -- what comes is what the frame brings
-  meant-so : (t : ℕ) (s : List ℕ) (p : Part) → frameCall gateways [] t s ≡ part t p → callOf m o gateways [] t s ≡ part t p
-  unfolding callOf lentCall
-  meant-so t s p e = rw (le-ltb (length m) 16384 enough, le-ltb (length o) 2047 room) e
+abbrev old-low : Part
+old-low = low old-key last-month 7 false
 
-  meets : (σ : State) (t : ℕ) (s : List ℕ) (p : Part) → Fixed gateways m σ → frameCall gateways [] t s ≡ part t p → answered ((step σ (part t p)) .reply) ≡ true
-      → Gives (turn σ o t s p .received) (turn σ o t s p .memory) o (turn σ o t s p .output) (step σ (callIn σ (turn σ o t s p)))
-  meets σ t s p F e a =
-      let c : callIn σ (turn σ o t s p) ≡ part t p = call-is gateways m σ (turn σ o t s p) F ∙ meant-so t s p e in
-      rw c (record { answer = answer-so ((step σ (part t p)) .reply) a; table = refl; memory = refl; output = refl })
+abbrev new-high : Other → Part
+new-high w = high (new-key w) (this-month w) 7 false
 
-  -- ---- "Two gateways in one shaft, one still sending last month's patch, can pick the same tag and size": 0001 sends last month's block, 0002
-  -- this month's, part by part in turn, the parts of the one in order and those of the other not
-  abbrev old-high : Part
-  old-high = high (key 1) last-month 7 false
+abbrev new-low : Other → Part
+new-low w = low (new-key w) (this-month w) 7 false
 
-  abbrev old-low : Part
-  old-low = low (key 1) last-month 7 false
-
-  abbrev new-high : Part
-  new-high = high (key 2) this-month 7 false
-
-  abbrev new-low : Part
-  new-low = low (key 2) this-month 7 false
+module _ (w : Other) (m : List ℕ) where
+  abbrev σ₀ : State
+  σ₀ = begun (gateways w) m
 
   abbrev σ₁ : State
-  σ₁ = next (begun gateways m) (part 1000 old-high)
+  σ₁ = next σ₀ (part 1000 old-high)
 
   abbrev σ₂ : State
-  σ₂ = next σ₁ (part 1005 new-low)
+  σ₂ = next σ₁ (part 1005 (new-low w))
 
   abbrev σ₃ : State
   σ₃ = next σ₂ (part 1012 old-low)
 
+-- none is refused, and each gateway holds no slot when its first part comes
+all-answered :
+    (w : Other) (m : List ℕ)
+    → (answered ((step (σ₀ w m) (part 1000 old-high)) .reply) ≡ true)
+    × (answered ((step (σ₁ w m) (part 1005 (new-low w))) .reply) ≡ true)
+    × (answered ((step (σ₂ w m) (part 1012 old-low)) .reply) ≡ true)
+    × (answered ((step (σ₃ w m) (part 1017 (new-high w))) .reply) ≡ true)
+    × (held (new-key w .src) (σ₁ w m .table .slots) ≡ 0)
+    × (held (old-key .src) (σ₀ w m .table .slots) ≡ 0)
+unfolding hasIn fill bits unpack val packs pack count firstAt those noNode noSource sameSource sameNode present addressed sameKey freeSlot opened isFree isKey isOf expired expire1 expire gatesOf isGate held free idleOthers mayOpen units fitsIn spans repeatsIn takenIn full place offer withSlots slotsAt land whereKey whereFree offerAt openAt takePart step next seats fresh zeroed
+all-answered neighbour m = (refl, refl, refl, refl, refl, refl)
+all-answered building m = (refl, refl, refl, refl, refl, refl)
+
+-- what comes under the two keys
+came-so :
+    (w : Other)
+    → (came old-key (part 1000 old-high ∷ part 1005 (new-low w) ∷ []) ≡ old-high ∷ [])
+    × (came old-key (part 1000 old-high ∷ part 1005 (new-low w) ∷ part 1012 old-low ∷ []) ≡ old-high ∷ old-low ∷ [])
+    × (came (new-key w) (part 1005 (new-low w) ∷ part 1012 old-low ∷ []) ≡ new-low w ∷ [])
+    × (came (new-key w) (part 1005 (new-low w) ∷ part 1012 old-low ∷ part 1017 (new-high w) ∷ []) ≡ new-low w ∷ new-high w ∷ [])
+unfolding came comes sameKey sameSource sameNode fitsIn zeroed
+came-so neighbour = (refl, refl, refl, refl)
+came-so building = (refl, refl, refl, refl)
+
+module _ (w : Other) (m : List ℕ) (enough : 16384 ≤ length m) (o : List ℕ) (room : 2047 ≤ length o) where
+  abbrev gs : List Source
+  gs = gateways w
+
+  name-of : (t : ℕ) (s : List ℕ) (p : Part) → frameCall gs [] t s ≡ part t p → named s ≡ is (p .key)
+  name-of t s p e = frame-part gs [] t s t p e .name
+
+  fixed₀ : Fixed gs m (σ₀ w m)
+  fixed₀ = fixed-begun gs m (listed w) enough
+
+  -- what comes is what the frame brings
+  meant-so : (t : ℕ) (s : List ℕ) (p : Part) → frameCall gs [] t s ≡ part t p → callOf m o gs [] t s ≡ part t p
+  unfolding callOf lentCall
+  meant-so t s p e = rw (le-ltb (length m) 16384 enough, le-ltb (length o) 2047 room) e
+
+  meets : (σ : State) (t : ℕ) (s : List ℕ) (p : Part) → Fixed gs m σ → frameCall gs [] t s ≡ part t p → answered ((step σ (part t p)) .reply) ≡ true
+      → Gives (turn σ o t s p .received) (turn σ o t s p .memory) o (turn σ o t s p .output) (step σ (callIn σ (turn σ o t s p)))
+  meets σ t s p F e a =
+      let c : callIn σ (turn σ o t s p) ≡ part t p = call-is gs m σ (turn σ o t s p) F ∙ meant-so t s p e in
+      rw c (record { answer = answer-so ((step σ (part t p)) .reply) a; table = refl; memory = refl; output = refl })
+
   abbrev h₁ : Turn
-  h₁ = turn (begun gateways m) o 1000 (later-frame 0x01 0x30) old-high
+  h₁ = turn (σ₀ w m) o 1000 old-later old-high
 
   abbrev h₂ : Turn
-  h₂ = turn σ₁ o 1005 (first-frame 0x02 0x43 0xc6) new-low
+  h₂ = turn (σ₁ w m) o 1005 (new-first w) (new-low w)
 
   abbrev h₃ : Turn
-  h₃ = turn σ₂ o 1012 (first-frame 0x01 0x44 0xc7) old-low
+  h₃ = turn (σ₂ w m) o 1012 old-first old-low
 
   abbrev h₄ : Turn
-  h₄ = turn σ₃ o 1017 (later-frame 0x02 0x31) new-high
+  h₄ = turn (σ₃ w m) o 1017 (new-later w) (new-high w)
 
-  -- none is refused, and 0002 holds no slot when its first part comes
-  all-answered :
-      (answered ((step (begun gateways m) (part 1000 old-high)) .reply) ≡ true)
-      × (answered ((step σ₁ (part 1005 new-low)) .reply) ≡ true)
-      × (answered ((step σ₂ (part 1012 old-low)) .reply) ≡ true)
-      × (answered ((step σ₃ (part 1017 new-high)) .reply) ≡ true)
-      × (held (key 2 .src) (σ₁ .table .slots) ≡ 0)
-      × (held (key 1 .src) (begun gateways m .table .slots) ≡ 0)
-  unfolding hasIn fill bits unpack val packs pack count firstAt those noNode noSource sameSource sameNode present addressed sameKey freeSlot opened isFree isKey isOf expired expire1 expire gatesOf isGate held free idleOthers mayOpen units fitsIn spans repeatsIn takenIn full place offer withSlots slotsAt land whereKey whereFree offerAt openAt takePart step next seats fresh zeroed
-  all-answered = (refl, refl, refl, refl, refl, refl)
+  fixed₁ : Fixed gs m (σ₁ w m)
+  fixed₁ = fixed-next gs m (σ₀ w m) (part 1000 old-high) fixed₀
 
-  fixed₁ : Fixed gateways m σ₁
-  fixed₁ = fixed-next gateways m (begun gateways m) (part 1000 old-high) fixed₀
+  fixed₂ : Fixed gs m (σ₂ w m)
+  fixed₂ = fixed-next gs m (σ₁ w m) (part 1005 (new-low w)) fixed₁
 
-  fixed₂ : Fixed gateways m σ₂
-  fixed₂ = fixed-next gateways m σ₁ (part 1005 new-low) fixed₁
+  fixed₃ : Fixed gs m (σ₃ w m)
+  fixed₃ = fixed-next gs m (σ₂ w m) (part 1012 old-low) fixed₂
 
-  fixed₃ : Fixed gateways m σ₃
-  fixed₃ = fixed-next gateways m σ₂ (part 1012 old-low) fixed₂
-
-  pub both-ran : Ran (begun gateways m) (h₁ ∷ h₂ ∷ h₃ ∷ h₄ ∷ [])
+  pub both-ran : Ran (σ₀ w m) (h₁ ∷ h₂ ∷ h₃ ∷ h₄ ∷ [])
   unfolding Ran next
   both-ran = (
-    meets (begun gateways m) 1000 (later-frame 0x01 0x30) old-high fixed₀ (later-brings 1000 .0) (all-answered .0),
+    meets (σ₀ w m) 1000 old-later old-high fixed₀ (later-brings 1000 w .0) (all-answered w m .0),
     (
-      meets σ₁ 1005 (first-frame 0x02 0x43 0xc6) new-low fixed₁ (first-brings 1005 .1) (all-answered .1),
+      meets (σ₁ w m) 1005 (new-first w) (new-low w) fixed₁ (first-brings 1005 w .1) (all-answered w m .1),
       (
-        meets σ₂ 1012 (first-frame 0x01 0x44 0xc7) old-low fixed₂ (first-brings 1012 .0) (all-answered .2),
-        (meets σ₃ 1017 (later-frame 0x02 0x31) new-high fixed₃ (later-brings 1017 .1) (all-answered .3), tt),
+        meets (σ₂ w m) 1012 old-first old-low fixed₂ (first-brings 1012 w .0) (all-answered w m .2),
+        (meets (σ₃ w m) 1017 (new-later w) (new-high w) fixed₃ (later-brings 1017 w .1) (all-answered w m .3), tt),
       ),
     ),
   )
 
-  pub old-cutting : Cutting (key 1) last-month
+  pub old-cutting : Cutting old-key last-month
   unfolding zeroed finish fitsIn
-  old-cutting = halves (key 1) last-month 7 false refl (lit< tt) (lit≤ tt) refl refl refl
+  old-cutting = halves old-key last-month 7 false refl (lit< tt) (lit≤ tt) refl refl refl
 
-  pub new-cutting : Cutting (key 2) this-month
+  pub new-cutting : Cutting (new-key w) (this-month w)
   unfolding zeroed finish fitsIn
-  new-cutting = halves (key 2) this-month 7 false refl (lit< tt) (lit≤ tt) refl refl refl
+  new-cutting = halves (new-key w) (this-month w) 7 false refl (lit< tt) (lit≤ tt) refl refl refl
 
-  meant₁ : meant gateways m h₁ ≡ part 1000 old-high
-  meant₁ = meant-so 1000 (later-frame 0x01 0x30) old-high (later-brings 1000 .0)
+  meant₁ : meant gs m h₁ ≡ part 1000 old-high
+  meant₁ = meant-so 1000 old-later old-high (later-brings 1000 w .0)
 
-  meant₂ : meant gateways m h₂ ≡ part 1005 new-low
-  meant₂ = meant-so 1005 (first-frame 0x02 0x43 0xc6) new-low (first-brings 1005 .1)
+  meant₂ : meant gs m h₂ ≡ part 1005 (new-low w)
+  meant₂ = meant-so 1005 (new-first w) (new-low w) (first-brings 1005 w .1)
 
-  meant₃ : meant gateways m h₃ ≡ part 1012 old-low
-  meant₃ = meant-so 1012 (first-frame 0x01 0x44 0xc7) old-low (first-brings 1012 .0)
+  meant₃ : meant gs m h₃ ≡ part 1012 old-low
+  meant₃ = meant-so 1012 old-first old-low (first-brings 1012 w .0)
 
-  meant₄ : meant gateways m h₄ ≡ part 1017 new-high
-  meant₄ = meant-so 1017 (later-frame 0x02 0x31) new-high (later-brings 1017 .1)
+  meant₄ : meant gs m h₄ ≡ part 1017 (new-high w)
+  meant₄ = meant-so 1017 (new-later w) (new-high w) (later-brings 1017 w .1)
 
   what-came :
-      (partsOf gateways m (key 1) (h₁ ∷ h₂ ∷ []) ≡ old-high ∷ [])
-      × (partsOf gateways m (key 1) (h₁ ∷ h₂ ∷ h₃ ∷ []) ≡ old-high ∷ old-low ∷ [])
-      × (partsOf gateways m (key 2) (h₂ ∷ h₃ ∷ []) ≡ new-low ∷ [])
-      × (partsOf gateways m (key 2) (h₂ ∷ h₃ ∷ h₄ ∷ []) ≡ new-low ∷ new-high ∷ [])
-  unfolding partsOf came comes sameKey sameSource sameNode fitsIn zeroed
-  what-came = (rw (meant₁, meant₂), rw (meant₁, meant₂, meant₃), rw (meant₂, meant₃), rw (meant₂, meant₃, meant₄))
+      (partsOf gs m old-key (h₁ ∷ h₂ ∷ []) ≡ old-high ∷ [])
+      × (partsOf gs m old-key (h₁ ∷ h₂ ∷ h₃ ∷ []) ≡ old-high ∷ old-low ∷ [])
+      × (partsOf gs m (new-key w) (h₂ ∷ h₃ ∷ []) ≡ new-low w ∷ [])
+      × (partsOf gs m (new-key w) (h₂ ∷ h₃ ∷ h₄ ∷ []) ≡ new-low w ∷ new-high w ∷ [])
+  unfolding partsOf
+  what-came = (
+    rw (meant₁, meant₂) (came-so w .0),
+    rw (meant₁, meant₂, meant₃) (came-so w .1),
+    rw (meant₂, meant₃) (came-so w .2),
+    rw (meant₂, meant₃, meant₄) (came-so w .3),
+  )
 
-  of-old : (h : Turn) → In h (h₁ ∷ h₂ ∷ h₃ ∷ []) → named (h .frame) ≡ is (key 1) → (p : Part) × In p (old-cutting .parts) × Brings gateways m h p
+  of-old : (h : Turn) → In h (h₁ ∷ h₂ ∷ h₃ ∷ []) → named (h .frame) ≡ is old-key → (p : Part) × In p (old-cutting .parts) × Brings gs m h p
   unfolding old-cutting zeroed finish fitsIn
-  of-old h (inl z) n = rw z (old-high, high-in (key 1) last-month 7 false refl (lit< tt) (lit≤ tt) refl refl refl, meant₁)
+  of-old h (inl z) n = rw z (old-high, high-in old-key last-month 7 false refl (lit< tt) (lit≤ tt) refl refl refl, meant₁)
   of-old h (inr (inl z)) n =
-      not-named (first-frame 0x02 0x43 0xc6) (key 2) (key 1) 2 1 refl refl (λ e. omega arith)
-      (name-of 1005 (first-frame 0x02 0x43 0xc6) new-low (first-brings 1005 .1)) (rw z at n)
-  of-old h (inr (inr (inl z))) n = rw z (old-low, low-in (key 1) last-month 7 false refl (lit< tt) (lit≤ tt) refl refl refl, meant₃)
+      not-named w (new-first w) (rw z at n) (name-of 1005 (new-first w) (new-low w) (first-brings 1005 w .1))
+  of-old h (inr (inr (inl z))) n = rw z (old-low, low-in old-key last-month 7 false refl (lit< tt) (lit≤ tt) refl refl refl, meant₃)
   of-old h (inr (inr (inr z))) n = absurd z
 
-  of-new : (h : Turn) → In h (h₂ ∷ h₃ ∷ h₄ ∷ []) → named (h .frame) ≡ is (key 2) → (p : Part) × In p (new-cutting .parts) × Brings gateways m h p
+  of-new : (h : Turn) → In h (h₂ ∷ h₃ ∷ h₄ ∷ []) → named (h .frame) ≡ is (new-key w) → (p : Part) × In p (new-cutting .parts) × Brings gs m h p
   unfolding new-cutting zeroed finish fitsIn
-  of-new h (inl z) n = rw z (new-low, low-in (key 2) this-month 7 false refl (lit< tt) (lit≤ tt) refl refl refl, meant₂)
+  of-new h (inl z) n = rw z ((new-low w), low-in (new-key w) (this-month w) 7 false refl (lit< tt) (lit≤ tt) refl refl refl, meant₂)
   of-new h (inr (inl z)) n =
-      not-named (first-frame 0x01 0x44 0xc7) (key 1) (key 2) 1 2 refl refl (λ e. omega arith)
-      (name-of 1012 (first-frame 0x01 0x44 0xc7) old-low (first-brings 1012 .0)) (rw z at n)
-  of-new h (inr (inr (inl z))) n = rw z (new-high, high-in (key 2) this-month 7 false refl (lit< tt) (lit≤ tt) refl refl refl, meant₄)
+      not-named w old-first (name-of 1012 old-first old-low (first-brings 1012 w .0)) (rw z at n)
+  of-new h (inr (inr (inl z))) n = rw z ((new-high w), high-in (new-key w) (this-month w) 7 false refl (lit< tt) (lit≤ tt) refl refl refl, meant₄)
   of-new h (inr (inr (inr z))) n = absurd z
 
-  pub old-supposed : Supposed gateways m (key 1) last-month old-cutting [] (h₁ ∷ h₂ ∷ []) h₃
+  pub old-supposed : Supposed gs m old-key last-month old-cutting [] (h₁ ∷ h₂ ∷ []) h₃
   unfolding Forward
   old-supposed = record {
-    gateways = listed;
+    gateways = listed w;
     enough = enough;
     forward = (lit≤ tt, (lit≤ tt, (lit≤ tt, tt)));
     first = h₁;
     then = h₂ ∷ h₃ ∷ [];
     earliest = refl;
-    earliest-named = name-of 1000 (later-frame 0x01 0x30) old-high (later-brings 1000 .0);
+    earliest-named = name-of 1000 old-later old-high (later-brings 1000 w .0);
     of-cutting = of-old;
-    cover = rw (what-came .1) (halves-cover (key 1) last-month 7 false refl (lit< tt) (lit≤ tt) (old-high ∷ old-low ∷ []) (inr (inl refl)) (inl refl));
-    not-before = λ c. low-missing (key 1) last-month 7 false refl (lit< tt) (lit≤ tt) (old-high ∷ []) (λ p i. only p old-high i) (rw (what-came .0) at c);
+    cover = rw (what-came .1) (halves-cover old-key last-month 7 false refl (lit< tt) (lit≤ tt) (old-high ∷ old-low ∷ []) (inr (inl refl)) (inl refl));
+    not-before = λ c. low-missing old-key last-month 7 false refl (lit< tt) (lit≤ tt) (old-high ∷ []) (λ p i. only p old-high i) (rw (what-came .0) at c);
     soon = lit< tt;
   }
 
-  pub new-supposed : Supposed gateways m (key 2) this-month new-cutting (h₁ ∷ []) (h₂ ∷ h₃ ∷ []) h₄
+  pub new-supposed : Supposed gs m (new-key w) (this-month w) new-cutting (h₁ ∷ []) (h₂ ∷ h₃ ∷ []) h₄
   unfolding Forward
   new-supposed = record {
-    gateways = listed;
+    gateways = listed w;
     enough = enough;
     forward = (lit≤ tt, (lit≤ tt, (lit≤ tt, (lit≤ tt, tt))));
     first = h₂;
     then = h₃ ∷ h₄ ∷ [];
     earliest = refl;
-    earliest-named = name-of 1005 (first-frame 0x02 0x43 0xc6) new-low (first-brings 1005 .1);
+    earliest-named = name-of 1005 (new-first w) (new-low w) (first-brings 1005 w .1);
     of-cutting = of-new;
-    cover = rw (what-came .3) (halves-cover (key 2) this-month 7 false refl (lit< tt) (lit≤ tt) (new-low ∷ new-high ∷ []) (inl refl) (inr (inl refl)));
-    not-before = λ c. high-missing (key 2) this-month 7 false refl (lit< tt) (lit≤ tt) (new-low ∷ []) (λ p i. only p new-low i) (rw (what-came .2) at c);
+    cover = rw (what-came .3) (halves-cover (new-key w) (this-month w) 7 false refl (lit< tt) (lit≤ tt) (new-low w ∷ new-high w ∷ []) (inl refl) (inr (inl refl)));
+    not-before = λ c. high-missing (new-key w) (this-month w) 7 false refl (lit< tt) (lit≤ tt) (new-low w ∷ []) (λ p i. only p (new-low w) i) (rw (what-came .2) at c);
     soon = lit< tt;
   }
 
   -- so each gateway's datagram is handed out exactly, and the two never meet
-  pub both-blocks : Concluded (key 1) last-month (h₁ ∷ h₂ ∷ []) h₃ × Concluded (key 2) this-month (h₂ ∷ h₃ ∷ []) h₄
+  pub both-blocks : Concluded old-key last-month (h₁ ∷ h₂ ∷ []) h₃ × Concluded (new-key w) (this-month w) (h₂ ∷ h₃ ∷ []) h₄
   unfolding endOf next
   both-blocks = (
-    demand-3 gateways m (key 1) last-month old-cutting [] (h₁ ∷ h₂ ∷ []) h₃ old-supposed
-        (ran-left gateways m (h₁ ∷ h₂ ∷ h₃ ∷ []) (h₄ ∷ []) (begun gateways m) both-ran) (all-answered .5),
-    demand-3 gateways m (key 2) this-month new-cutting (h₁ ∷ []) (h₂ ∷ h₃ ∷ []) h₄ new-supposed both-ran (all-answered .4),
+    demand-3 gs m old-key last-month old-cutting [] (h₁ ∷ h₂ ∷ []) h₃ old-supposed
+        (ran-left gs m (h₁ ∷ h₂ ∷ h₃ ∷ []) (h₄ ∷ []) (σ₀ w m) both-ran) (all-answered w m .5),
+    demand-3 gs m (new-key w) (this-month w) new-cutting (h₁ ∷ []) (h₂ ∷ h₃ ∷ []) h₄ new-supposed both-ran (all-answered w m .4),
   )
 
   -- ---- an elided checksum, a part that comes twice, and the last one 59,999 ms after the first: 0001 sends this month's block
   abbrev resent-low : Part
-  resent-low = low (key 1) resent 7 true
+  resent-low = low old-key resent 7 true
 
   abbrev resent-high : Part
-  resent-high = high (key 1) resent 7 true
+  resent-high = high old-key resent 7 true
 
   abbrev τ₁ : State
-  τ₁ = next (begun gateways m) (part 0 resent-low)
+  τ₁ = next (σ₀ w m) (part 0 resent-low)
 
   abbrev τ₂ : State
   τ₂ = next τ₁ (part 10 resent-low)
 
   abbrev e₁ : Turn
-  e₁ = turn (begun gateways m) o 0 elided-frame resent-low
+  e₁ = turn (σ₀ w m) o 0 elided-frame resent-low
 
   abbrev e₂ : Turn
   e₂ = turn τ₁ o 10 elided-frame resent-low
 
   abbrev e₃ : Turn
-  e₃ = turn τ₂ o 59999 (later-frame 0x01 0x31) resent-high
+  e₃ = turn τ₂ o 59999 resent-later resent-high
 
-  elided₁ : meant gateways m e₁ ≡ part 0 resent-low
-  elided₁ = meant-so 0 elided-frame resent-low (first-brings 0 .2)
+  elided₁ : meant gs m e₁ ≡ part 0 resent-low
+  elided₁ = meant-so 0 elided-frame resent-low (first-brings 0 w .2)
 
-  elided₂ : meant gateways m e₂ ≡ part 10 resent-low
-  elided₂ = meant-so 10 elided-frame resent-low (first-brings 10 .2)
+  elided₂ : meant gs m e₂ ≡ part 10 resent-low
+  elided₂ = meant-so 10 elided-frame resent-low (first-brings 10 w .2)
 
-  elided₃ : meant gateways m e₃ ≡ part 59999 resent-high
-  elided₃ = meant-so 59999 (later-frame 0x01 0x31) resent-high (later-brings 59999 .2)
+  elided₃ : meant gs m e₃ ≡ part 59999 resent-high
+  elided₃ = meant-so 59999 resent-later resent-high (later-brings 59999 w .2)
 
   resent-fits : (fits resent-low ≡ true) × (fits resent-high ≡ true)
   unfolding fitsIn zeroed
@@ -296,35 +330,35 @@ module _ (m : List ℕ) (enough : 16384 ≤ length m) (o : List ℕ) (room : 204
   unfolding finish zeroed put be16Bytes be32Bytes words onesSum pseudo covered udpChecksum summed
   resent-summed = refl
 
-  pub resent-cutting : Cutting (key 1) resent
-  resent-cutting = halves (key 1) resent 7 true refl (lit< tt) (lit≤ tt) (resent-fits .0) (resent-fits .1) resent-summed
+  pub resent-cutting : Cutting old-key resent
+  resent-cutting = halves old-key resent 7 true refl (lit< tt) (lit≤ tt) (resent-fits .0) (resent-fits .1) resent-summed
 
   resent-came :
-      (partsOf gateways m (key 1) (e₁ ∷ e₂ ∷ []) ≡ resent-low ∷ resent-low ∷ [])
-      × (partsOf gateways m (key 1) (e₁ ∷ e₂ ∷ e₃ ∷ []) ≡ resent-low ∷ resent-low ∷ resent-high ∷ [])
+      (partsOf gs m old-key (e₁ ∷ e₂ ∷ []) ≡ resent-low ∷ resent-low ∷ [])
+      × (partsOf gs m old-key (e₁ ∷ e₂ ∷ e₃ ∷ []) ≡ resent-low ∷ resent-low ∷ resent-high ∷ [])
   unfolding partsOf came comes sameKey sameSource sameNode fitsIn zeroed
   resent-came = (rw (elided₁, elided₂), rw (elided₁, elided₂, elided₃))
 
-  of-resent : (h : Turn) → In h (e₁ ∷ e₂ ∷ e₃ ∷ []) → named (h .frame) ≡ is (key 1) → (p : Part) × In p (resent-cutting .parts) × Brings gateways m h p
+  of-resent : (h : Turn) → In h (e₁ ∷ e₂ ∷ e₃ ∷ []) → named (h .frame) ≡ is old-key → (p : Part) × In p (resent-cutting .parts) × Brings gs m h p
   unfolding resent-cutting
-  of-resent h (inl z) n = rw z (resent-low, low-in (key 1) resent 7 true refl (lit< tt) (lit≤ tt) (resent-fits .0) (resent-fits .1) resent-summed, elided₁)
-  of-resent h (inr (inl z)) n = rw z (resent-low, low-in (key 1) resent 7 true refl (lit< tt) (lit≤ tt) (resent-fits .0) (resent-fits .1) resent-summed, elided₂)
-  of-resent h (inr (inr (inl z))) n = rw z (resent-high, high-in (key 1) resent 7 true refl (lit< tt) (lit≤ tt) (resent-fits .0) (resent-fits .1) resent-summed, elided₃)
+  of-resent h (inl z) n = rw z (resent-low, low-in old-key resent 7 true refl (lit< tt) (lit≤ tt) (resent-fits .0) (resent-fits .1) resent-summed, elided₁)
+  of-resent h (inr (inl z)) n = rw z (resent-low, low-in old-key resent 7 true refl (lit< tt) (lit≤ tt) (resent-fits .0) (resent-fits .1) resent-summed, elided₂)
+  of-resent h (inr (inr (inl z))) n = rw z (resent-high, high-in old-key resent 7 true refl (lit< tt) (lit≤ tt) (resent-fits .0) (resent-fits .1) resent-summed, elided₃)
   of-resent h (inr (inr (inr z))) n = absurd z
 
-  pub resent-supposed : Supposed gateways m (key 1) resent resent-cutting [] (e₁ ∷ e₂ ∷ []) e₃
+  pub resent-supposed : Supposed gs m old-key resent resent-cutting [] (e₁ ∷ e₂ ∷ []) e₃
   unfolding Forward
   resent-supposed = record {
-    gateways = listed;
+    gateways = listed w;
     enough = enough;
     forward = (lit≤ tt, (lit≤ tt, (lit≤ tt, tt)));
     first = e₁;
     then = e₂ ∷ e₃ ∷ [];
     earliest = refl;
-    earliest-named = name-of 0 elided-frame resent-low (first-brings 0 .2);
+    earliest-named = name-of 0 elided-frame resent-low (first-brings 0 w .2);
     of-cutting = of-resent;
-    cover = rw (resent-came .1) (halves-cover (key 1) resent 7 true refl (lit< tt) (lit≤ tt) (resent-low ∷ resent-low ∷ resent-high ∷ []) (inl refl) (inr (inr (inl refl))));
-    not-before = λ c. high-missing (key 1) resent 7 true refl (lit< tt) (lit≤ tt) (resent-low ∷ resent-low ∷ []) twice (rw (resent-came .0) at c);
+    cover = rw (resent-came .1) (halves-cover old-key resent 7 true refl (lit< tt) (lit≤ tt) (resent-low ∷ resent-low ∷ resent-high ∷ []) (inl refl) (inr (inr (inl refl))));
+    not-before = λ c. high-missing old-key resent 7 true refl (lit< tt) (lit≤ tt) (resent-low ∷ resent-low ∷ []) twice (rw (resent-came .0) at c);
     soon = lit< tt;
   }
     where
@@ -333,32 +367,32 @@ module _ (m : List ℕ) (enough : 16384 ≤ length m) (o : List ℕ) (room : 204
       twice p (inr z) = only p resent-low z
 
   resent-replies :
-      ((step (begun gateways m) (part 0 resent-low)) .reply ≡ kept)
+      ((step (σ₀ w m) (part 0 resent-low)) .reply ≡ kept)
       × ((step τ₁ (part 10 resent-low)) .reply ≡ kept)
       × ((step τ₂ (part 59999 resent-high)) .reply ≡ out resent)
   unfolding run AllKept
   resent-replies =
-      let w = as-calls gateways m (key 1) resent resent-cutting [] (e₁ ∷ e₂ ∷ []) e₃ resent-supposed (all-answered .5) in
-      let c₁ : comes (key 1) (meant gateways m e₁) ≡ resent-low ∷ [] = rw elided₁ (comes-part (key 1) 0 resent-low refl (resent-fits .0)) in
-      let c₂ : comes (key 1) (meant gateways m e₂) ≡ resent-low ∷ [] = rw elided₂ (comes-part (key 1) 10 resent-low refl (resent-fits .0)) in
-      let p : part 59999 (w .0) ≡ part 59999 resent-high = sym (w .1) ∙ elided₃ in
-      let k₁ : (step (begun gateways m) (meant gateways m e₁)) .reply ≡ kept = w .2 .none-before .0 resent-low c₁ in
-      let k₂ : (step (next (begun gateways m) (meant gateways m e₁)) (meant gateways m e₂)) .reply ≡ kept = w .2 .none-before .1 .0 resent-low c₂ in
-      let k₃ : (step (next (next (begun gateways m) (meant gateways m e₁)) (meant gateways m e₂)) (part 59999 (w .0))) .reply ≡ out resent = w .2 .exactly in
+      let v = as-calls gs m old-key resent resent-cutting [] (e₁ ∷ e₂ ∷ []) e₃ resent-supposed (all-answered w m .5) in
+      let c₁ : comes old-key (meant gs m e₁) ≡ resent-low ∷ [] = rw elided₁ (comes-part old-key 0 resent-low refl (resent-fits .0)) in
+      let c₂ : comes old-key (meant gs m e₂) ≡ resent-low ∷ [] = rw elided₂ (comes-part old-key 10 resent-low refl (resent-fits .0)) in
+      let p : part 59999 (v .0) ≡ part 59999 resent-high = sym (v .1) ∙ elided₃ in
+      let k₁ : (step (σ₀ w m) (meant gs m e₁)) .reply ≡ kept = v .2 .none-before .0 resent-low c₁ in
+      let k₂ : (step (next (σ₀ w m) (meant gs m e₁)) (meant gs m e₂)) .reply ≡ kept = v .2 .none-before .1 .0 resent-low c₂ in
+      let k₃ : (step (next (next (σ₀ w m) (meant gs m e₁)) (meant gs m e₂)) (part 59999 (v .0))) .reply ≡ out resent = v .2 .exactly in
       (rw elided₁ at k₁, rw (elided₁, elided₂) at k₂, rw (elided₁, elided₂, p) at k₃)
 
-  pub resent-ran : Ran (begun gateways m) (e₁ ∷ e₂ ∷ e₃ ∷ [])
+  pub resent-ran : Ran (σ₀ w m) (e₁ ∷ e₂ ∷ e₃ ∷ [])
   unfolding Ran next
   resent-ran =
-      let f₁ = fixed-next gateways m (begun gateways m) (part 0 resent-low) fixed₀ in
-      let f₂ = fixed-next gateways m τ₁ (part 10 resent-low) f₁ in (
-        meets (begun gateways m) 0 elided-frame resent-low fixed₀ (first-brings 0 .2) (ap answered (resent-replies .0)),
+      let f₁ = fixed-next gs m (σ₀ w m) (part 0 resent-low) fixed₀ in
+      let f₂ = fixed-next gs m τ₁ (part 10 resent-low) f₁ in (
+        meets (σ₀ w m) 0 elided-frame resent-low fixed₀ (first-brings 0 w .2) (ap answered (resent-replies .0)),
         (
-          meets τ₁ 10 elided-frame resent-low f₁ (first-brings 10 .2) (ap answered (resent-replies .1)),
-          (meets τ₂ 59999 (later-frame 0x01 0x31) resent-high f₂ (later-brings 59999 .2) (ap answered (resent-replies .2)), tt),
+          meets τ₁ 10 elided-frame resent-low f₁ (first-brings 10 w .2) (ap answered (resent-replies .1)),
+          (meets τ₂ 59999 resent-later resent-high f₂ (later-brings 59999 w .2) (ap answered (resent-replies .2)), tt),
         ),
       )
 
-  pub resent-block : Concluded (key 1) resent (e₁ ∷ e₂ ∷ []) e₃
+  pub resent-block : Concluded old-key resent (e₁ ∷ e₂ ∷ []) e₃
   unfolding endOf
-  resent-block = demand-3 gateways m (key 1) resent resent-cutting [] (e₁ ∷ e₂ ∷ []) e₃ resent-supposed resent-ran (all-answered .5)
+  resent-block = demand-3 gs m old-key resent resent-cutting [] (e₁ ∷ e₂ ∷ []) e₃ resent-supposed resent-ran (all-answered w m .5)

@@ -1,6 +1,6 @@
--- Frames worked out: what `receive` takes them to bring. Gateways short 0001 and 0002 send UDP datagrams of 64 bytes to the broadcast address,
--- each cut in two at byte 56, all under the tag 7.
-use Prim.Native.Nat.{ℕ}
+-- Frames worked out: what `receive` takes them to bring. Two gateways send UDP datagrams of 64 bytes to the broadcast address, each cut in two
+-- at byte 56, all under the tag 7. The one is short 0001 in PAN abcd; the other is 0002 beside it, or 0001 in another building, in PAN 1234.
+use Prim.Native.Nat.{ℕ, _+_}
 use mathlib.Core.Path.{_≡_, refl}
 use mathlib.Core.Bool.{true, false}
 use mathlib.Core.List.{List, [], _∷_}
@@ -34,16 +34,43 @@ use Rattle.promises.proofs.TwoParts.{low, high}
 abbrev pub short : ℕ → Node
 short n = record { kind = 1; number = n }
 
--- under PAN abcd
-abbrev pub gate : ℕ → Source
-gate n = record { node = short n; pan = 0xabce }
+-- the other gateway: a neighbour in the shaft, or one in another building
+pub data Other : Type 0 where
+  neighbour : Other
+  building : Other
 
-abbrev pub gateways : List Source
-gateways = gate 1 ∷ gate 2 ∷ []
+abbrev pub number : Other → ℕ
+number neighbour = 0x02
+number building = 0x01
 
--- 64 bytes to the broadcast address under the tag 7, from the gateway n
-abbrev pub key : ℕ → Key
-key n = record { src = gate n; dst = short 0xffff; size = 64; tag = 7 }
+-- its PAN as frames carry it, low byte first, and as a source holds it
+abbrev pub pan-low : Other → ℕ
+pan-low neighbour = 0xcd
+pan-low building = 0x34
+
+abbrev pub pan-high : Other → ℕ
+pan-high neighbour = 0xab
+pan-high building = 0x12
+
+abbrev pub pan : Other → ℕ
+pan neighbour = 0xabcd
+pan building = 0x1234
+
+abbrev pub gate : ℕ → ℕ → Source
+gate n p = record { node = short n; pan = 1 + p }
+
+abbrev pub gateways : Other → List Source
+gateways w = gate 1 0xabcd ∷ gate (number w) (pan w) ∷ []
+
+-- 64 bytes to the broadcast address under the tag 7, from a gateway
+abbrev key : Source → Key
+key g = record { src = g; dst = short 0xffff; size = 64; tag = 7 }
+
+abbrev pub old-key : Key
+old-key = key (gate 1 0xabcd)
+
+abbrev pub new-key : Other → Key
+new-key w = key (gate (number w) (pan w))
 
 -- a datagram from fe80::ff:fe00:n to fe80::ff:fe00:ffff, ports f0b1 and f0b2, with the checksum's bytes and the data
 abbrev pub block : ℕ → ℕ → ℕ → List ℕ → List ℕ
@@ -60,47 +87,80 @@ october = 0x50 ∷ 0x41 ∷ 0x54 ∷ 0x43 ∷ 0x48 ∷ 0x20 ∷ 0x32 ∷ 0x30 �
 abbrev pub november : List ℕ
 november = 0x50 ∷ 0x41 ∷ 0x54 ∷ 0x43 ∷ 0x48 ∷ 0x20 ∷ 0x32 ∷ 0x30 ∷ 0x32 ∷ 0x36 ∷ 0x2d ∷ 0x31 ∷ 0x31 ∷ 0x20 ∷ 0x30 ∷ 0x33 ∷ []
 
--- last month's block from the gateway 0001, this month's from 0002, and this month's from 0001
+-- last month's block from the one gateway, this month's from the other, and this month's from the one
 abbrev pub last-month : List ℕ
 last-month = block 0x01 0x44 0xc7 october
 
-abbrev pub this-month : List ℕ
-this-month = block 0x02 0x43 0xc6 november
+-- the low byte of its checksum
+abbrev pub sum : Other → ℕ
+sum neighbour = 0xc6
+sum building = 0xc7
+
+abbrev pub this-month : Other → List ℕ
+this-month w = block (number w) 0x43 (sum w) november
 
 abbrev pub resent : List ℕ
 resent = block 0x01 0x43 0xc7 november
 
--- a MAC header of the gateway n with the sequence number s, and what follows
-abbrev pub from : ℕ → ℕ → List ℕ → List ℕ
-from n s r = 0x41 ∷ 0x88 ∷ s ∷ 0xcd ∷ 0xab ∷ 0xff ∷ 0xff ∷ n ∷ 0x00 ∷ r
+-- a MAC header with the sequence number s, in the PAN whose bytes are l and h, of the short address n, and what follows
+abbrev pub from : ℕ → ℕ → ℕ → ℕ → List ℕ → List ℕ
+from n l h s r = 0x41 ∷ 0x88 ∷ s ∷ l ∷ h ∷ 0xff ∷ 0xff ∷ n ∷ 0x00 ∷ r
+
+abbrev of-one : ℕ → List ℕ → List ℕ
+of-one s r = from 0x01 0xcd 0xab s r
+
+abbrev of-other : Other → ℕ → List ℕ → List ℕ
+of-other w s r = from (number w) (pan-low w) (pan-high w) s r
 
 -- the first parts: UDP with the checksum carried, and elided; the later part
-abbrev pub first-frame : ℕ → ℕ → ℕ → List ℕ
-first-frame n c1 c2 =
-    from n 0x00 (0xc0 ∷ 0x40 ∷ 0x00 ∷ 0x07 ∷ 0x7e ∷ 0x33 ∷ 0xf3 ∷ 0x12 ∷ c1 ∷ c2
-    ∷ 0x50 ∷ 0x41 ∷ 0x54 ∷ 0x43 ∷ 0x48 ∷ 0x20 ∷ 0x32 ∷ 0x30 ∷ [])
+abbrev carried-sum : ℕ → ℕ → List ℕ
+carried-sum c1 c2 =
+    0xc0 ∷ 0x40 ∷ 0x00 ∷ 0x07 ∷ 0x7e ∷ 0x33 ∷ 0xf3 ∷ 0x12 ∷ c1 ∷ c2
+    ∷ 0x50 ∷ 0x41 ∷ 0x54 ∷ 0x43 ∷ 0x48 ∷ 0x20 ∷ 0x32 ∷ 0x30 ∷ []
 
-abbrev pub elided-frame : List ℕ
-elided-frame =
-    from 0x01 0x00 (0xc0 ∷ 0x40 ∷ 0x00 ∷ 0x07 ∷ 0x7e ∷ 0x33 ∷ 0xf7 ∷ 0x12
-    ∷ 0x50 ∷ 0x41 ∷ 0x54 ∷ 0x43 ∷ 0x48 ∷ 0x20 ∷ 0x32 ∷ 0x30 ∷ [])
+abbrev elided-sum : List ℕ
+elided-sum =
+    0xc0 ∷ 0x40 ∷ 0x00 ∷ 0x07 ∷ 0x7e ∷ 0x33 ∷ 0xf7 ∷ 0x12
+    ∷ 0x50 ∷ 0x41 ∷ 0x54 ∷ 0x43 ∷ 0x48 ∷ 0x20 ∷ 0x32 ∷ 0x30 ∷ []
 
 -- the later part of the month 0x30 (October) or 0x31
-abbrev pub later-frame : ℕ → ℕ → List ℕ
-later-frame n month = from n 0x01 (0xe0 ∷ 0x40 ∷ 0x00 ∷ 0x07 ∷ 0x07 ∷ 0x32 ∷ 0x36 ∷ 0x2d ∷ 0x31 ∷ month ∷ 0x20 ∷ 0x30 ∷ 0x33 ∷ [])
+abbrev rest : ℕ → List ℕ
+rest month = 0xe0 ∷ 0x40 ∷ 0x00 ∷ 0x07 ∷ 0x07 ∷ 0x32 ∷ 0x36 ∷ 0x2d ∷ 0x31 ∷ month ∷ 0x20 ∷ 0x30 ∷ 0x33 ∷ []
 
--- what they bring, and what their headers name
+abbrev pub old-first : List ℕ
+old-first = of-one 0x00 (carried-sum 0x44 0xc7)
+
+abbrev pub old-later : List ℕ
+old-later = of-one 0x01 (rest 0x30)
+
+abbrev pub new-first : Other → List ℕ
+new-first w = of-other w 0x00 (carried-sum 0x43 (sum w))
+
+abbrev pub new-later : Other → List ℕ
+new-later w = of-other w 0x01 (rest 0x31)
+
+abbrev pub elided-frame : List ℕ
+elided-frame = of-one 0x00 elided-sum
+
+abbrev pub resent-later : List ℕ
+resent-later = of-one 0x01 (rest 0x31)
+
+-- what they bring to a table of the two gateways
 module _ (t : ℕ) where
   pub first-brings :
-      (frameCall gateways [] t (first-frame 0x01 0x44 0xc7) ≡ part t (low (key 1) last-month 7 false))
-      × (frameCall gateways [] t (first-frame 0x02 0x43 0xc6) ≡ part t (low (key 2) this-month 7 false))
-      × (frameCall gateways [] t elided-frame ≡ part t (low (key 1) resent 7 true))
+      (w : Other)
+      → (frameCall (gateways w) [] t old-first ≡ part t (low old-key last-month 7 false))
+      × (frameCall (gateways w) [] t (new-first w) ≡ part t (low (new-key w) (this-month w) 7 false))
+      × (frameCall (gateways w) [] t elided-frame ≡ part t (low old-key resent 7 true))
   unfolding byte be16 le16 byteBytes be16Bytes be32Bytes be64Bytes put supported hasSequence hasAddressing carried01 carried panField addressField side sides addressing auxiliary Mac.sequenceOf Mac.reprOf Mac.headerRest Mac.header Mac.mac dispatchOf dispatch fragRest frag nextHeader nhcOf nhc bothPorts ports checksum udpRest udp Iphc.base Iphc.contexts Iphc.traffic Iphc.hopLimit Iphc.frontRest Iphc.front Iphc.identifier Iphc.prefixOf Iphc.elided Iphc.source Iphc.destination Iphc.addresses Iphc.reprOf Iphc.behind Iphc.iphc transport byNext headers Full.frontBytes Full.bothBytes Full.ipv6Bytes Full.udpBytes Expand.plain Expand.bytesOf Expand.sized Expand.expansion meshField broadcastField relay framed arrival piece fragment payload count sameSource sameNode present addressed isGate keyOf welcome admitted frameCall zeroed
-  first-brings = (refl, refl, refl)
+  first-brings neighbour = (refl, refl, refl)
+  first-brings building = (refl, refl, refl)
 
   pub later-brings :
-      (frameCall gateways [] t (later-frame 0x01 0x30) ≡ part t (high (key 1) last-month 7 false))
-      × (frameCall gateways [] t (later-frame 0x02 0x31) ≡ part t (high (key 2) this-month 7 false))
-      × (frameCall gateways [] t (later-frame 0x01 0x31) ≡ part t (high (key 1) resent 7 true))
+      (w : Other)
+      → (frameCall (gateways w) [] t old-later ≡ part t (high old-key last-month 7 false))
+      × (frameCall (gateways w) [] t (new-later w) ≡ part t (high (new-key w) (this-month w) 7 false))
+      × (frameCall (gateways w) [] t resent-later ≡ part t (high old-key resent 7 true))
   unfolding byte be16 le16 supported hasSequence hasAddressing carried01 carried panField addressField side sides addressing auxiliary Mac.sequenceOf Mac.reprOf Mac.headerRest Mac.header Mac.mac dispatchOf dispatch fragRest frag meshField broadcastField relay framed arrival piece fragment payload count sameSource sameNode present addressed isGate keyOf welcome admitted frameCall zeroed
-  later-brings = (refl, refl, refl)
+  later-brings neighbour = (refl, refl, refl)
+  later-brings building = (refl, refl, refl)
