@@ -33,11 +33,35 @@ MUTANTS = [
      "self.slots[s].key[:2] + self.slots[s].key[3:] == key[:2] + key[3:]:"),
     ("key without tag", BOTH, "self.slots[s].key == key:", "self.slots[s].key[:3] == key[:3]:"),
     ("key by size and tag only", BOTH, "self.slots[s].key == key:", "self.slots[s].key[2:] == key[2:]:"),
-    ("key with the PAN", BOTH,
-     "key = (mac.src, mac.dst, fragment.size, fragment.tag)",
-     "key = (mac.src, mac.dst, fragment.size, fragment.tag, mac.dst_pan)",
-     "src, dst, size, tag = slot.key",
-     "src, dst, size, tag = slot.key[:4]"),
+    # The PAN (02, item 6). heard's gateways are all under abcd, so that some of these cannot be shown by captures.
+    ("key without the PAN", CALLS,
+     "self.slots[s].key == key:",
+     "(self.slots[s].key[0][0],) + self.slots[s].key[1:] == (key[0][0],) + key[1:]:"),
+    ("the destination PAN before the source's", BOTH,
+     "pan = mac.dst_pan if mac.src_pan is None else mac.src_pan",
+     "pan = mac.src_pan if mac.dst_pan is None else mac.dst_pan"),
+    ("the destination PAN only", BOTH,
+     "pan = mac.dst_pan if mac.src_pan is None else mac.src_pan", "pan = mac.dst_pan"),
+    ("the source PAN only", BOTH,
+     "pan = mac.dst_pan if mac.src_pan is None else mac.src_pan", "pan = mac.src_pan"),
+    ("a frame without a PAN is of any", BOTH,
+     "        if sender_of(mac) not in self.gateways:\n",
+     "        if sender_of(mac) not in self.gateways and (sender_of(mac)[1] is not None or mac.src not in [\n"
+     "                address for address, pan in self.gateways]):\n"),
+    ("a gateway without a PAN is in any", CALLS,
+     "        if sender_of(mac) not in self.gateways:\n",
+     "        if sender_of(mac) not in self.gateways and (mac.src, None) not in self.gateways:\n"),
+    ("PAN ffff is any", CALLS,
+     "        if sender_of(mac) not in self.gateways:\n",
+     "        if sender_of(mac) not in self.gateways and (mac.src, 0xffff) not in self.gateways:\n"),
+    ("no PAN is PAN 0", CALLS, "    return (mac.src, pan)\n", "    return (mac.src, pan or 0)\n"),
+    ("gateways by their address only", BOTH,
+     "        if sender_of(mac) not in self.gateways:\n",
+     "        if mac.src not in [address for address, pan in self.gateways]:\n"),
+    ("two gateways with one address are equal", CALLS,
+     "len(set(gateways)) != len(gateways)", "len(set(addresses)) != len(gateways)"),
+    ("slots counted by address only", CALLS,
+     "if slot and slot.key[0] == gateway)", "if slot and slot.key[0][0] == gateway[0])"),
     ("same place with other bytes is harmless", BOTH,
      "first == begin and length == len(data) and taken == data:",
      "first == begin and length == len(data):"),
@@ -217,7 +241,7 @@ MUTANTS = [
      "            raise Refused(10)\n"
      "\n"
      "        key = ",
-     "            s = self.find((mac.src, mac.dst, fragment.size, fragment.tag))\n"
+     "            s = self.find((sender_of(mac), mac.dst, fragment.size, fragment.tag))\n"
      "            if s is not None:\n"
      "                self.slots[s] = None\n"
      "            raise Refused(10)\n"
@@ -227,14 +251,15 @@ MUTANTS = [
      "        if len(data) % 8 != 0 and end != fragment.size:\n"
      "            raise Refused(10)\n",
      "        if len(data) % 8 != 0 and end != fragment.size:\n"
-     "            s = self.find((mac.src, mac.dst, fragment.size, fragment.tag))\n"
+     "            s = self.find((sender_of(mac), mac.dst, fragment.size, fragment.tag))\n"
      "            if s is not None:\n"
      "                self.judge_against_taken(s, begin, data)\n"
      "            raise Refused(10)\n"),
     ("12 before 10", BOTH,
      "        begin, end = fragment.begin, fragment.begin + len(data)\n",
      "        begin, end = fragment.begin, fragment.begin + len(data)\n"
-     "        if self.find((mac.src, mac.dst, fragment.size, fragment.tag)) is None and self.held(mac.src) == 3:\n"
+     "        if self.find((sender_of(mac), mac.dst, fragment.size, fragment.tag)) is None \\\n"
+     "                and self.held(sender_of(mac)) == 3:\n"
      "            raise Refused(12)\n"),
     ("sizes from 39", BOTH, "fragment.size < 40", "fragment.size < 39"),
     ("sizes from 41", BOTH, "fragment.size < 40", "fragment.size < 41"),
@@ -423,8 +448,11 @@ MUTANTS = [
     ("9 before 13", BOTH,
      "        if mac.secured or mac.frame_type != 1:\n"
      "            raise Refused(13)\n"
+     "        mac = through_relays(mac, frame)\n"
      "        if sender_of(mac) not in self.gateways:\n"
      "            raise Refused(9)\n",
+     "        if not mac.secured and mac.frame_type == 1:\n"
+     "            mac = through_relays(mac, frame)\n"
      "        if sender_of(mac) not in self.gateways:\n"
      "            raise Refused(9)\n"
      "        if mac.secured or mac.frame_type != 1:\n"
