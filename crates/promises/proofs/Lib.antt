@@ -3,7 +3,10 @@ pub mod Filling
 pub mod Engine
 pub mod Instance
 pub mod Runs
+pub mod Strangers
 pub mod Frames
+pub mod Writes
+pub mod Unwritten
 pub mod Origins
 pub mod Library
 pub mod TwoParts
