@@ -3,7 +3,7 @@ use Prim.Native.Nat.{ℕ, _+_, _≤_}
 use native.Mathlib.Omega.{arith}
 use mathlib.Core.Path.{_≡_, refl, sym, ap, _∙_}
 use mathlib.Core.Logic.{_⊎_, inl, inr}
-use mathlib.Core.Bool.{true}
+use mathlib.Core.Bool.{true, false}
 use mathlib.Core.List.{List, [], _∷_, _++_, map, map-append, append-nil}
 use lib.ListN.{length, drop}
 use Rattle.octets.specs.Read.{is}
@@ -21,10 +21,11 @@ use Rattle.reassembly.proofs.Promises.{three, tally, outcome-one}
 use Rattle.reassembly.proofs.Promises as Table
 use Rattle.reassembly.specs.Cover.{In, Covers, MadeOf}
 use Rattle.promises.specs.Cuttings.{Cutting}
-use Rattle.promises.specs.Runs.{came, AllKept}
-use Rattle.promises.specs.Runs as Calls
+use Rattle.promises.specs.Runs.{came, AllKept, CallsForward, CallsSupposed, CallsConcluded}
 use Rattle.promises.specs.Frames.{Turn, left, callIn, Ran, endOf, openings, endings, Forward, meant, Brings, partsOf, takenOf, Supposed, Concluded, HandedOut}
+use Rattle.promises.specs.Demands.{Demand3, AtMostThree, EightSlots, NeverMeet}
 use Rattle.reassembly.proofs.Fits.{fit}
+use Rattle.promises.proofs.Strangers.{no-stranger}
 use Rattle.promises.proofs.Engine.{In-left}
 use Rattle.receiver.specs.Names.{named}
 use Rattle.receiver.proofs.Names.{call-after, call-part, call-room, call-memory}
@@ -129,13 +130,13 @@ module _ (gs : List Source) (m : List ℕ) where
       rw (call-is σ h F, endings-are hs (left h) (left-fixed σ h hs F L) (left-went σ h hs F L), left-is σ h hs F L)
 
   -- a clock that goes forward over all the calls does so over those that take their time
-  forward-is : (hs : List Turn) (n k : ℕ) → k ≤ n → Forward n hs → Calls.Forward k (map (meant gs m) hs)
-  unfolding Forward Calls.Forward
+  forward-is : (hs : List Turn) (n k : ℕ) → k ≤ n → Forward n hs → CallsForward k (map (meant gs m) hs)
+  unfolding Forward CallsForward
   forward-is [] n k l f = tt
   forward-is (h ∷ hs) n k l f = go (call-after m (h .before) gs (h .contexts) (h .time) (h .frame) k) (f .0) (λ j l′. forward-is hs (h .time) j l′ (f .1))
     where
-      go : (after k (meant gs m h) ≡ k) ⊎ (after k (meant gs m h) ≡ h .time) → n ≤ h .time → ((j : ℕ) → j ≤ h .time → Calls.Forward j (map (meant gs m) hs))
-          → (k ≤ after k (meant gs m h)) × Calls.Forward (after k (meant gs m h)) (map (meant gs m) hs)
+      go : (after k (meant gs m h) ≡ k) ⊎ (after k (meant gs m h) ≡ h .time) → n ≤ h .time → ((j : ℕ) → j ≤ h .time → CallsForward j (map (meant gs m) hs))
+          → (k ≤ after k (meant gs m h)) × CallsForward (after k (meant gs m h)) (map (meant gs m) hs)
       go (inl e) a ih = rw e (omega arith, ih k (omega arith))
       go (inr e) a ih = rw e (omega arith, ih (h .time) (omega arith))
 
@@ -273,7 +274,7 @@ module _ (gs : List Source) (m : List ℕ) (k : Key) (d : List ℕ) (C : Cutting
   unfolding calls
   run-of-calls = map-append (meant gs m) past (mid ++ (c ∷ [])) ∙ ap (λ (xs : List Call). map (meant gs m) past ++ xs) (unfold calls in window)
 
-  supposed : Calls.Supposed gs m k d C (calls past) (calls mid) (c .time) q
+  supposed : CallsSupposed gs m k d C (calls past) (calls mid) (c .time) q
   unfolding calls partsOf
   supposed = record {
     gateways = H .gateways;
@@ -295,9 +296,9 @@ module _ (gs : List Source) (m : List ℕ) (k : Key) (d : List ℕ) (C : Cutting
 
   -- what the theorem on runs of calls says of them
   pub as-calls : held (owner k) (run (begun gs m) (map (meant gs m) past) .table .slots) ≡ 0
-      → (p : Part) × (meant gs m c ≡ part (c .time) p) × Calls.Concluded (run (begun gs m) (map (meant gs m) past)) k d (map (meant gs m) mid) (c .time) p
+      → (p : Part) × (meant gs m c ≡ part (c .time) p) × CallsConcluded (run (begun gs m) (map (meant gs m) past)) k d (map (meant gs m) mid) (c .time) p
   unfolding calls
-  as-calls z = (q, q-brought, Runs.demand-3 gs m k d C (calls past) (calls mid) (c .time) q supposed z)
+  as-calls z = (q, q-brought, Runs.calls-demand-3 gs m k d C (calls past) (calls mid) (c .time) q supposed z)
 
   fits-output : length d ≤ length (c .before)
   fits-output =
@@ -337,7 +338,7 @@ module _ (gs : List Source) (m : List ℕ) (k : Key) (d : List ℕ) (C : Cutting
     unfolding calls
     σ₂-is = went-is gs m mid σ₁ fixed₁ went₁
 
-    replied : Calls.Concluded (run (begun gs m) (calls past)) k d (calls mid) (c .time) q → Replies k d σ₁ mid c
+    replied : CallsConcluded (run (begun gs m) (calls past)) k d (calls mid) (c .time) q → Replies k d σ₁ mid c
     unfolding calls
     replied D = record {
       none-before = kept-in gs m k mid σ₁ fixed₁ went₁ (rw σ₁-is (D .none-before)) (λ h i n.
@@ -349,10 +350,10 @@ module _ (gs : List Source) (m : List ℕ) (k : Key) (d : List ℕ) (C : Cutting
 
     pub replies-ready : Ready k (endOf (begun gs m) past) (H .first .time) → Replies k d (endOf (begun gs m) past) mid c
     unfolding supposed
-    replies-ready r = replied (Runs.demand-3-ready gs m k d C (calls past) (calls mid) (c .time) q supposed (rw (← σ₁-is) r))
+    replies-ready r = replied (Runs.calls-demand-3-ready gs m k d C (calls past) (calls mid) (c .time) q supposed (rw (← σ₁-is) r))
 
     pub replies : held (owner k) (endOf (begun gs m) past .table .slots) ≡ 0 → Replies k d (endOf (begun gs m) past) mid c
-    replies z = replied (Runs.demand-3 gs m k d C (calls past) (calls mid) (c .time) q supposed (rw (← σ₁-is) z))
+    replies z = replied (Runs.calls-demand-3 gs m k d C (calls past) (calls mid) (c .time) q supposed (rw (← σ₁-is) z))
 
   module _ (R : Ran (begun gs m) (past ++ (mid ++ (c ∷ [])))) where
     ran₁ : Ran σ₁ (mid ++ (c ∷ []))
@@ -374,9 +375,8 @@ module _ (gs : List Source) (m : List ℕ) (k : Key) (d : List ℕ) (C : Cutting
     pub demand-3-ready : Ready k (endOf (begun gs m) past) (H .first .time) → Concluded k d mid c
     demand-3-ready r = concluded (replies-ready (ran-went (past ++ (mid ++ (c ∷ []))) (begun gs m) R) r)
 
-    -- DEMAND 3: "if a gateway holds no slot when the earliest part of a datagram comes, [..]"
-    pub demand-3 : held (owner k) (endOf (begun gs m) past .table .slots) ≡ 0 → Concluded k d mid c
-    demand-3 z = concluded (replies (ran-went (past ++ (mid ++ (c ∷ []))) (begun gs m) R) z)
+    hands-out : held (owner k) (endOf (begun gs m) past .table .slots) ≡ 0 → Concluded k d mid c
+    hands-out z = concluded (replies (ran-went (past ++ (mid ++ (c ∷ []))) (begun gs m) R) z)
 
 -- ---- companions, over every run from a fresh table; a run up to any moment is a run (`ran-left`)
 
@@ -387,6 +387,9 @@ module _ (gs : List Source) (m : List ℕ) (W : Gateways gs) (h : 16384 ≤ leng
   module _ (L : Went (begun gs m) hs) where
     pub went-three : (g : Source) → held g (endOf (begun gs m) hs .table .slots) ≤ 3
     went-three g = rw (went-is gs m hs (begun gs m) (fixed-begun gs m W h) L) (three gs m W h (map (meant gs m) hs) g)
+
+    pub went-none : (g : Source) → isGate g gs ≡ false → held g (endOf (begun gs m) hs .table .slots) ≡ 0
+    went-none g n = rw (went-is gs m hs (begun gs m) (fixed-begun gs m W h) L) (no-stranger gs m W h (map (meant gs m) hs) g n)
 
     pub went-eight : openings (begun gs m) hs + free (endOf (begun gs m) hs .table .slots) ≡ 8 + endings (begun gs m) hs
     went-eight =
@@ -400,14 +403,6 @@ module _ (gs : List Source) (m : List ℕ) (W : Gateways gs) (h : 16384 ≤ leng
 
     pub memory-stays : length (endOf (begun gs m) hs .mem) ≡ length m
     memory-stays = end-fixed gs m hs (begun gs m) (fixed-begun gs m W h) R .size
-
-    -- "No gateway ever holds over three slots"
-    pub at-most-three : (g : Source) → held g (endOf (begun gs m) hs .table .slots) ≤ 3
-    at-most-three = went-three (ran-went hs (begun gs m) R)
-
-    -- "At every moment openings so far less endings so far, plus free slots, is 8"
-    pub eight-slots : openings (begun gs m) hs + free (endOf (begun gs m) hs .table .slots) ≡ 8 + endings (begun gs m) hs
-    eight-slots = went-eight (ran-went hs (begun gs m) R)
 
 -- "bytes of two such keys never meet in one datagram", in 01's words: "each byte handed out from a slot, a computed checksum aside, is the byte
 -- at its place of a part taken under that slot's key since the slot's opening"
@@ -442,8 +437,27 @@ module _ (gs : List Source) (m : List ℕ) (W : Gateways gs) (room : 16384 ≤ l
         out-told n (refused r) e = let z : _≡_ {A = ℕ} 0 1 = cc in absurd (omega arith)
 
   module _ (R : Ran (begun gs m) (hs ++ (h ∷ []))) where
-    pub never-meet : (p : Part) → Brings gs m h p → (n : ℕ) → h .received .answer ≡ Outcome.Out n → HandedOut gs m (p .key) hs h n
+    apart : (p : Part) → Brings gs m h p → (n : ℕ) → h .received .answer ≡ Outcome.Out n → HandedOut gs m (p .key) hs h n
     unfolding Ran
-    never-meet p b n a =
+    apart p b n a =
         let G = ran-right gs m hs (h ∷ []) (begun gs m) R .0 in
         went-apart (ran-went (hs ++ (h ∷ [])) (begun gs m) R) p b n (sym (ap ofOutcome a) ∙ G .answer) (G .output)
+
+-- ---- the four, each of its type (specs/Demands.antt)
+
+pub demand-3 : Demand3
+demand-3 = hands-out
+
+pub at-most-three : AtMostThree
+at-most-three gs m W room hs R = went-three gs m W room hs (ran-went hs (begun gs m) R)
+
+pub eight-slots : EightSlots
+eight-slots gs m W room hs R = went-eight gs m W room hs (ran-went hs (begun gs m) R)
+
+pub never-meet : NeverMeet
+never-meet = apart
+
+-- what is no gateway holds no slot
+pub no-stranger-holds : (gs : List Source) (m : List ℕ) → Gateways gs → 16384 ≤ length m → (hs : List Turn) → Ran (begun gs m) hs
+    → (g : Source) → isGate g gs ≡ false → held g (endOf (begun gs m) hs .table .slots) ≡ 0
+no-stranger-holds gs m W room hs R = went-none gs m W room hs (ran-went hs (begun gs m) R)

@@ -3,25 +3,27 @@ use Prim.Native.Nat.{ℕ, _+_, _≤_, _<_}
 use native.Mathlib.Omega.{arith}
 use mathlib.Core.Path.{_≡_, sym, ap, _∙_}
 use mathlib.Core.Logic.{inl, inr}
+use mathlib.Core.Bool.{false}
 use mathlib.Core.List.{List, [], _∷_, _++_, map, map-append}
 use lib.ListN.{length}
 use Rattle.octets.specs.Read.{is}
-use Rattle.reassembly.specs.Slots.{owner, held, free}
+use Rattle.reassembly.specs.Slots.{owner, isGate, held, free}
 use Rattle.reassembly.specs.Parts.{Part, Reply, kept, out, refused, told, outputAfter}
 use Rattle.reassembly.specs.Table.{State, step, Ready}
-use Rattle.reassembly.specs.Fresh.{Gateways, begun}
+use Rattle.reassembly.specs.Fresh.{gateOf, Gateways, begun}
 use Rattle.reassembly.specs.declared.slot.Source.{Source}
 use Rattle.reassembly.specs.declared.slot.Key.{Key}
 use Rattle.reassembly.specs.declared.table.Table.{Table}
 use Rattle.reassembly.specs.Cover.{In}
 use Rattle.receiver.specs.Names.{named}
-use Rattle.lift.specs.Face.{packed, gateways, tableBegun, Answers, received}
+use Rattle.lift.specs.Face.{packed, gatewayOf, gateways, tableBegun, Answers, received}
 use Rattle.lift.specs.Face as Face
 use Rattle.lift.proofs.Lists.{begun-fresh}
 use Rattle.promises.specs.Cuttings.{Cutting}
 use Rattle.promises.specs.Frames.{Turn, left, callIn, endOf, openings, endings, Brings, Supposed, HandedOut}
 use Rattle.promises.specs.Library.{LiftTurn, asTurn, RanIn, ConcludedIn}
-use Rattle.promises.proofs.Frames.{Went, KeptIn, Replies, replies, replies-ready, out-front, went-three, went-eight, went-apart}
+use Rattle.promises.specs.Demands.{LiftDemand3, LiftAtMostThree, LiftEightSlots, LiftNeverMeet}
+use Rattle.promises.proofs.Frames.{Went, KeptIn, Replies, replies, replies-ready, out-front, went-three, went-none, went-eight, went-apart}
 
 -- ---- "From a fresh table": where `lift_begin` answers 0, it leaves such a table, of gateways that `Supposed` asks for, whatever it was before
 
@@ -91,32 +93,34 @@ module _ (gs : List Source) (m : List ℕ) (k : Key) (d : List ℕ) (C : Cutting
   pub lift-demand-3-ready : Ready k (endOf (begun gs m) (map asTurn past)) (H .first .time) → ConcludedIn k d mid c
   lift-demand-3-ready r = concluded (replies-ready gs m k d C (map asTurn past) (map asTurn mid) (asTurn c) H went r)
 
-  -- DEMAND 3: "if a gateway holds no slot when the earliest part of a datagram comes, [..]"
-  pub lift-demand-3 : held (owner k) (endOf (begun gs m) (map asTurn past) .table .slots) ≡ 0 → ConcludedIn k d mid c
-  lift-demand-3 z = concluded (replies gs m k d C (map asTurn past) (map asTurn mid) (asTurn c) H went z)
+  hands-out : held (owner k) (endOf (begun gs m) (map asTurn past) .table .slots) ≡ 0 → ConcludedIn k d mid c
+  hands-out z = concluded (replies gs m k d C (map asTurn past) (map asTurn mid) (asTurn c) H went z)
 
--- ---- companions, over every run from a fresh table; a run up to any moment is a run (`in-left`)
+-- ---- the four, each of its type (specs/Demands.antt); a run up to any moment is a run (`in-left`)
 
-module _ (gs : List Source) (m : List ℕ) (W : Gateways gs) (room : 16384 ≤ length m) where
-  module _ (hs : List LiftTurn) (R : RanIn (begun gs m) hs) where
-    -- "No gateway ever holds over three slots"
-    pub lift-at-most-three : (g : Source) → held g (endOf (begun gs m) (map asTurn hs) .table .slots) ≤ 3
-    lift-at-most-three = went-three gs m W room (map asTurn hs) (in-went hs (begun gs m) R)
+pub lift-demand-3 : LiftDemand3
+lift-demand-3 = hands-out
 
-    -- "At every moment openings so far less endings so far, plus free slots, is 8"
-    pub lift-eight-slots : openings (begun gs m) (map asTurn hs) + free (endOf (begun gs m) (map asTurn hs) .table .slots) ≡ 8 + endings (begun gs m) (map asTurn hs)
-    lift-eight-slots = went-eight gs m W room (map asTurn hs) (in-went hs (begun gs m) R)
+pub lift-at-most-three : LiftAtMostThree
+lift-at-most-three gs m W room hs R = went-three gs m W room (map asTurn hs) (in-went hs (begun gs m) R)
 
-  -- "bytes of two such keys never meet in one datagram", of an answer LIFT_OUT with the length n
-  pub lift-never-meet : (hs : List LiftTurn) (h : LiftTurn) → RanIn (begun gs m) (hs ++ (h ∷ [])) → (p : Part) → Brings gs m (asTurn h) p
-      → (n : ℕ) → h .answer ≡ 65536 + n → n < 65536 → HandedOut gs m (p .key) (map asTurn hs) (asTurn h) n
-  lift-never-meet hs h R p b n a l =
-      let σ = endOf (begun gs m) (map asTurn hs) in
-      let A = in-last h σ (in-right hs (h ∷ []) (begun gs m) R) in
-      let L : Went (begun gs m) (map asTurn hs ++ (asTurn h ∷ [])) = rw (map-append asTurn hs (h ∷ [])) at (in-went (hs ++ (h ∷ [])) (begun gs m) R) in
-      went-apart gs m W room (map asTurn hs) (asTurn h) L p b n (unpacked n (told ((step σ (callIn σ (asTurn h))) .reply)) l (sym a ∙ A .answer)) (A .output)
-    where
-      unpacked : (n : ℕ) (r : Reply ℕ) → n < 65536 → 65536 + n ≡ packed r → out n ≡ r
-      unpacked n kept l e = absurd (omega (arith, e))
-      unpacked n (out j) l e = let q : n ≡ j = omega (arith, e) in ap out q
-      unpacked n (refused j) l e = absurd (omega (arith, e, l))
+pub lift-eight-slots : LiftEightSlots
+lift-eight-slots gs m W room hs R = went-eight gs m W room (map asTurn hs) (in-went hs (begun gs m) R)
+
+pub lift-never-meet : LiftNeverMeet
+lift-never-meet gs m W room hs h R p b n a l =
+    let σ = endOf (begun gs m) (map asTurn hs) in
+    let A = in-last h σ (in-right hs (h ∷ []) (begun gs m) R) in
+    let L : Went (begun gs m) (map asTurn hs ++ (asTurn h ∷ [])) = rw (map-append asTurn hs (h ∷ [])) at (in-went (hs ++ (h ∷ [])) (begun gs m) R) in
+    went-apart gs m W room (map asTurn hs) (asTurn h) L p b n (unpacked n (told ((step σ (callIn σ (asTurn h))) .reply)) l (sym a ∙ A .answer)) (A .output)
+  where
+    unpacked : (n : ℕ) (r : Reply ℕ) → n < 65536 → 65536 + n ≡ packed r → out n ≡ r
+    unpacked n kept l e = absurd (omega (arith, e))
+    unpacked n (out j) l e = let q : n ≡ j = omega (arith, e) in ap out q
+    unpacked n (refused j) l e = absurd (omega (arith, e, l))
+
+-- "0 for anything that is no gateway" (include/lift.h, lift_held): what `lift_held` answers, by its contract, for a kind and a number that are none
+pub lift-held-none : (gs : List Source) (m : List ℕ) → Gateways gs → 16384 ≤ length m → (hs : List LiftTurn) → RanIn (begun gs m) hs
+    → (kind number : ℕ) → isGate (gateOf (gatewayOf kind number)) gs ≡ false
+    → held (gateOf (gatewayOf kind number)) (endOf (begun gs m) (map asTurn hs) .table .slots) ≡ 0
+lift-held-none gs m W room hs R kind number = went-none gs m W room (map asTurn hs) (in-went hs (begun gs m) R) (gateOf (gatewayOf kind number))

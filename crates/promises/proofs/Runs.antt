@@ -12,7 +12,7 @@ use Rattle.reassembly.specs.declared.slot.Key.{Key}
 use Rattle.reassembly.proofs.Fresh.{fresh-last}
 use Rattle.reassembly.proofs.Runs.{gates-fresh, fresh-good, run-good, run-gates, comes-part, none-ready, none-before}
 use Rattle.promises.specs.Cuttings.{Cutting}
-use Rattle.promises.specs.Runs.{came, Forward, AllKept, Supposed, Concluded}
+use Rattle.promises.specs.Runs.{came, CallsForward, AllKept, CallsSupposed, CallsConcluded}
 use Rattle.promises.proofs.Engine as Engine
 use Rattle.promises.proofs.Instance.{engine, Fine, laws}
 
@@ -32,8 +32,8 @@ module _ (k : Key) where
   pub came-append : (cs ds : List Call) → came k (cs ++ ds) ≡ came k cs ++ came k ds
   came-append cs ds = sym (came-is (cs ++ ds)) ∙ Engine.came-append (engine k) cs ds ∙ ap₂ (λ (ps qs : List Part). ps ++ qs) (came-is cs) (came-is ds)
 
-  clock-is : (cs : List Call) (n : ℕ) → Forward n cs → Engine.Clock (engine k) n cs
-  unfolding Engine.Clock Forward
+  clock-is : (cs : List Call) (n : ℕ) → CallsForward n cs → Engine.Clock (engine k) n cs
+  unfolding Engine.Clock CallsForward
   clock-is [] n f = tt
   clock-is (c ∷ cs) n f = (f .0, clock-is cs (after n c) (f .1))
 
@@ -50,7 +50,7 @@ module _ (k : Key) where
 -- ---- the main theorem
 
 module _ (gs : List Source) (m : List ℕ) (k : Key) (d : List ℕ) (C : Cutting k d) (past mid : List Call) (t : ℕ) (q : Part)
-    (H : Supposed gs m k d C past mid t q) (R : Ready k (run (begun gs m) past) (H .t₀)) where
+    (H : CallsSupposed gs m k d C past mid t q) (R : Ready k (run (begun gs m) past) (H .t₀)) where
   σ : State
   σ = run (begun gs m) past
 
@@ -99,19 +99,19 @@ module _ (gs : List Source) (m : List ℕ) (k : Key) (d : List ℕ) (C : Cutting
 
   -- DEMAND 3, with the wider premise: the key is not open and the opening rule lets its gateway open a slot, as the call finds the table once
   -- it has freed the slots that are 60,000 ms old
-  pub demand-3-ready : Concluded (run (begun gs m) past) k d mid t q
+  pub calls-demand-3-ready : CallsConcluded (run (begun gs m) past) k d mid t q
   unfolding σ
-  demand-3-ready = record {
+  calls-demand-3-ready = record {
     none-before = kept-is k mid σ (handed .before);
     exactly = rw (run-is k mid σ) at (handed .covering);
   }
 
 -- DEMAND 3: "if a gateway holds no slot when the earliest part of a datagram comes, [..]"
-pub demand-3 : (gs : List Source) (m : List ℕ) (k : Key) (d : List ℕ) (C : Cutting k d) (past mid : List Call) (t : ℕ) (q : Part)
-    → Supposed gs m k d C past mid t q → held (owner k) (run (begun gs m) past .table .slots) ≡ 0 → Concluded (run (begun gs m) past) k d mid t q
-demand-3 gs m k d C past mid t q H z =
+pub calls-demand-3 : (gs : List Source) (m : List ℕ) (k : Key) (d : List ℕ) (C : Cutting k d) (past mid : List Call) (t : ℕ) (q : Part)
+    → CallsSupposed gs m k d C past mid t q → held (owner k) (run (begun gs m) past .table .slots) ≡ 0 → CallsConcluded (run (begun gs m) past) k d mid t q
+calls-demand-3 gs m k d C past mid t q H z =
     let σ = run (begun gs m) past in
     let G₀ = fresh-good gs m (H .gateways) (H .enough) in
     let gate : isGate (owner k) (gatesOf (σ .table)) ≡ true = rw (run-gates past (begun gs m) G₀, gates-fresh gs (H .gateways)) (H .gate) in
-    demand-3-ready gs m k d C past mid t q H
+    calls-demand-3-ready gs m k d C past mid t q H
     (none-ready k σ (H .t₀) (run-good past (begun gs m) G₀) gate (none-before (owner k) σ (H .t₀) z))

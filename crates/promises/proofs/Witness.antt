@@ -30,7 +30,6 @@ use Rattle.receiver.specs.Names.{named}
 use Rattle.reassembly.specs.Cover.{In}
 use Rattle.promises.specs.Cuttings.{zeroed, Cutting}
 use Rattle.promises.specs.Runs.{came, AllKept}
-use Rattle.promises.specs.Runs as Calls
 use Rattle.promises.specs.Frames.{Turn, callIn, Ran, endOf, Forward, meant, Brings, partsOf, Supposed, Concluded}
 use Rattle.promises.proofs.TwoParts.{low, high, halves, low-in, high-in, halves-cover, low-missing, high-missing}
 use Rattle.ieee802154.specs.declared.addr.PanField.{PanField}

@@ -2,4 +2,5 @@ pub mod Cuttings
 pub mod Runs
 pub mod Frames
 pub mod Library
+pub mod Demands
 pub mod Sent

@@ -20,9 +20,9 @@ came k [] = []
 came k (c ∷ cs) = comes k c ++ came k cs
 
 -- from the time n on, no call brings an earlier time than one before it
-unfoldable pub Forward : ℕ → List Call → Type 0
-Forward n [] = Unit {0}
-Forward n (c ∷ cs) = (n ≤ after n c) × Forward (after n c) cs
+unfoldable pub CallsForward : ℕ → List Call → Type 0
+CallsForward n [] = Unit {0}
+CallsForward n (c ∷ cs) = (n ≤ after n c) × CallsForward (after n c) cs
 
 -- each call of a run from σ that brings a part under k answers that it was kept
 unfoldable pub AllKept : Key → State → List Call → Type 0
@@ -32,13 +32,13 @@ AllKept k σ (c ∷ cs) = ((p : Part) → comes k c ≡ p ∷ [] → (step σ c)
 -- What demand 3 supposes. `past` is what came before the earliest part, `mid` what came from it on and before the covering call, and the
 -- covering call brings q at t. One premise stands apart (proofs/Runs.antt), "a gateway holds no slot when the earliest part [..] comes": less
 -- suffices, `Ready` at the time of the earliest part.
-pub record Supposed (gs : List Source) (m : List ℕ) (k : Key) (d : List ℕ) (C : Cutting k d) (past mid : List Call) (t : ℕ) (q : Part) : Type 0 where
+pub record CallsSupposed (gs : List Source) (m : List ℕ) (k : Key) (d : List ℕ) (C : Cutting k d) (past mid : List Call) (t : ℕ) (q : Part) : Type 0 where
   -- "From a fresh table with fixed gateways": the run begins at `begun gs m`, and no call changes the gateways;
   pub gateways : Gateways gs
   -- "enough lent memory that only the calls write": m, handed from call to call as the call left it;
   pub enough : 16384 ≤ length m
   -- "and a clock that never goes back": from 0, over all the calls;
-  pub forward : Forward 0 (past ++ (mid ++ (part t q ∷ [])))
+  pub forward : CallsForward 0 (past ++ (mid ++ (part t q ∷ [])))
   -- "if a gateway": the source of the key is one;
   pub gate : isGate (owner k) gs ≡ true
   -- "the earliest part of a datagram": the first of the calls from there on brings a part of the cutting, at t₀;
@@ -58,7 +58,7 @@ pub record Supposed (gs : List Source) (m : List ℕ) (k : Key) (d : List ℕ) (
 
 -- "then, of the calls for that key from that part on, the covering call and none before it hands it out exactly, whatever else this gateway or
 -- the others send": σ is the table and memory when the earliest part comes.
-pub record Concluded (σ : State) (k : Key) (d : List ℕ) (mid : List Call) (t : ℕ) (q : Part) : Type 0 where
+pub record CallsConcluded (σ : State) (k : Key) (d : List ℕ) (mid : List Call) (t : ℕ) (q : Part) : Type 0 where
   -- none before it: each answers `kept`;
   pub none-before : AllKept k σ mid
   -- the covering call hands out d.
