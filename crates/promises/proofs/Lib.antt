@@ -1,4 +1,5 @@
 pub mod Marked
+pub mod Keys
 pub mod Filling
 pub mod Engine
 pub mod Instance

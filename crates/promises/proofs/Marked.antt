@@ -1,5 +1,5 @@
 -- The marked examples of the scope document, one statement over the list.
-use Prim.Native.Nat.{ℕ}
+use Prim.Native.Nat.{ℕ, _≤_, _<_}
 use mathlib.Core.List.{List, [], _∷_}
 use mathlib.Core.Bool.{true, false}
 use mathlib.Core.Path.{_≡_}
@@ -28,9 +28,14 @@ use Rattle.sixlowpan.specs.declared.nhc.ExtHeaderId.the-variants.{Reserved}
 use Rattle.sixlowpan.specs.declared.nhc.ExtHeaderRepr.{ExtHeaderRepr}
 use Rattle.iphc.proofs.Examples.{k1-k5, labels}
 use Rattle.sixlowpan.proofs.Examples.{k6-k7-k8-k10, k9}
-use Rattle.reassembly.specs.Slots.{opened, expired}
+use lib.ListN.{length, getD}
+use Rattle.reassembly.specs.Slots.{busy, freeSlot, opened, expired}
+use Rattle.reassembly.specs.Parts.{Reply}
+use Rattle.reassembly.specs.Table.{other, State, step}
 use Rattle.reassembly.specs.declared.slot.Key.{Key}
+use Rattle.reassembly.specs.declared.slot.Slot.{Slot}
 use Rattle.reassembly.proofs.Promises.{k12-held, k12-gone}
+use Rattle.reassembly.proofs.Ageing.{k12-still, k12-freed}
 
 -- "With source ext 0011223344556677, destination short abcd"; no contexts
 abbrev source : AddressField
@@ -92,6 +97,13 @@ frame =
 abbrev frameBytes : List ℕ
 frameBytes = 0x41 ∷ 0x88 ∷ 0x05 ∷ 0xcd ∷ 0xab ∷ 0xff ∷ 0xff ∷ 0x34 ∷ 0x12 ∷ []
 
+-- slot i of the table holds the record s, opened at 0
+pub record SinceZero (σ : State) (i : ℕ) (s : Slot) : Type 0 where
+  pub low : i < length (σ .table .slots)
+  pub here : getD (σ .table .slots) i freeSlot ≡ s
+  pub live : busy s ≡ true
+  pub zero : s .since ≡ 0
+
 pub record Marked : Type 0 where
   -- fe80::211:2233:4455:6677 to fe80::ff:fe00:abcd, next 58, hop 64, 3 bytes
   pub k1 : reads source (0x7a ∷ 0x33 ∷ 0x3a ∷ []) ≡ got (header from (ip 0xfe80_0000_0000_0000 0x0000_00ff_fe00_abcd) 58 64) 3
@@ -113,9 +125,13 @@ pub record Marked : Type 0 where
   pub k10-emits : extBytes reserved ≡ 0xea ∷ 0x3a ∷ 0x04 ∷ []
   pub k11 : mac frameBytes ≡ got frame 9
   pub k11-emits : Mac.bytesOf frame ≡ frameBytes
-  -- a slot opened at 0 is held at 59,999, gone at 60,000
+  -- a slot opened at 0 is held at 59,999, gone at 60,000: as the table tests it, and of slot i of every table, after every call that brings no part
   pub k12-held : (k : Key) → expired 59999 (opened k 0) ≡ false
   pub k12-gone : (k : Key) → expired 60000 (opened k 0) ≡ true
+  pub k12-still : (σ : State) (i : ℕ) (s : Slot) → SinceZero σ i s → (a : Reply (List ℕ)) → σ .table .last ≤ 59999
+      → getD ((step σ (other 59999 a)) .state .table .slots) i freeSlot ≡ s
+  pub k12-freed : (σ : State) (i : ℕ) (s : Slot) → SinceZero σ i s → (a : Reply (List ℕ)) → σ .table .last ≤ 60000
+      → getD ((step σ (other 60000 a)) .state .table .slots) i freeSlot ≡ freeSlot
 
 pub marked : Marked
 marked =
@@ -140,6 +156,8 @@ marked =
       k11-emits = k11 .1;
       k12-held = k12-held;
       k12-gone = k12-gone;
+      k12-still = λ σ i s Z a h. k12-still σ i s (Z .low) (Z .here) (Z .live) (Z .zero) a h;
+      k12-freed = λ σ i s Z a h. k12-freed σ i s (Z .low) (Z .here) (Z .live) (Z .zero) a h;
     }
 
 -- 02, item 1: "With TF=01 the bytes 4a bc de must give ecn 40 (bits 01) and label abcde"; fe80::211:2233:4455:6677 to fe80::ff:fe00:abcd, next
