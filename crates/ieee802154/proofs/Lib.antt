@@ -6,3 +6,4 @@ pub mod HeaderSteps
 pub mod Examples
 pub mod RoundTrips
 pub mod Exact
+pub mod Tables

@@ -4,3 +4,4 @@ pub mod Addressing
 pub mod Security
 pub mod Mac
 pub mod RoundTrips
+pub mod PanTable
