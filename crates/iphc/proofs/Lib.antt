@@ -9,3 +9,4 @@ pub mod Gives
 pub mod Bytes
 pub mod Shortest
 pub mod Labels
+pub mod Modes

@@ -22,6 +22,12 @@ use Rattle.iphc.specs.declared.read.Front.{Front}
 use Rattle.iphc.specs.declared.read.Addresses.{Addresses}
 use Rattle.iphc.specs.declared.header.Repr.{Repr}
 
+--    0                                       1
+--    0   1   2   3   4   5   6   7   8   9   0   1   2   3   4   5
+--  +---+---+---+---+---+---+---+---+---+---+---+---+---+---+---+---+
+--  | 0 | 1 | 1 |  TF   |NH | HLIM  |CID|SAC|  SAM  | M |DAC|  DAM  |
+--  +---+---+---+---+---+---+---+---+---+---+---+---+---+---+---+---+
+
 -- ---- 3.1.1, the base: 011 TF(2) NH HLIM(2) CID SAC SAM(2) M DAC DAM(2)
 abbrev pub baseOf : ℕ → Base
 baseOf v =

@@ -4,3 +4,4 @@ pub mod Iphc
 pub mod Emit
 pub mod Widths
 pub mod Shortest
+pub mod Modes

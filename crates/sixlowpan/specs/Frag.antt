@@ -30,6 +30,18 @@ fragRest word tag =
 abbrev pub fragWidth : ℕ → ℕ
 fragWidth word = choose (eqb (word / 2048) 0b11000) 0 1
 
+-- a first part
+--                      1                   2                   3
+--  0 1 2 3 4 5 6 7 8 9 0 1 2 3 4 5 6 7 8 9 0 1 2 3 4 5 6 7 8 9 0 1
+-- +-+-+-+-+-+-+-+-+-+-+-+-+-+-+-+-+-+-+-+-+-+-+-+-+-+-+-+-+-+-+-+-+
+-- |1 1 0 0 0|    datagram_size    |         datagram_tag          |
+-- +-+-+-+-+-+-+-+-+-+-+-+-+-+-+-+-+-+-+-+-+-+-+-+-+-+-+-+-+-+-+-+-+
+-- and a later one
+-- +-+-+-+-+-+-+-+-+-+-+-+-+-+-+-+-+-+-+-+-+-+-+-+-+-+-+-+-+-+-+-+-+
+-- |1 1 1 0 0|    datagram_size    |         datagram_tag          |
+-- +-+-+-+-+-+-+-+-+-+-+-+-+-+-+-+-+-+-+-+-+-+-+-+-+-+-+-+-+-+-+-+-+
+-- |datagram_offset|
+-- +-+-+-+-+-+-+-+-+
 -- five bits of dispatch and 11 of size, 16 of tag
 unfoldable pub frag : Reader Repr
 frag = do

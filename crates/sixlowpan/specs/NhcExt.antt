@@ -46,6 +46,10 @@ protocolOf MobilityHeader = 0
 protocolOf Header = 0
 protocolOf Reserved = 0
 
+--   0   1   2   3   4   5   6   7
+-- +---+---+---+---+---+---+---+---+
+-- | 1 | 1 | 1 | 0 |    EID    |NH |
+-- +---+---+---+---+---+---+---+---+
 -- what follows the byte b, that is 1110, EID and NH: the next header and the length
 unfoldable pub extRest : ℕ → Reader ExtHeaderRepr
 extRest b = do

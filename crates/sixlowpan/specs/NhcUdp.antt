@@ -60,6 +60,10 @@ checksum elided =
       give (WordField.Some x))
     (give WordField.None)
 
+--   0   1   2   3   4   5   6   7
+-- +---+---+---+---+---+---+---+---+
+-- | 1 | 1 | 1 | 1 | 0 | C |   P   |
+-- +---+---+---+---+---+---+---+---+
 -- what follows the byte b, that is 11110, C and P
 unfoldable pub udpRest : ℕ → Reader UdpNhcRepr
 udpRest b = do
