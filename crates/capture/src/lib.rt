@@ -9,7 +9,7 @@
 // every slice of bytes: the count of frames where each field of the block is right and each unused byte zero, else 15. proofs/
 // shows that the definition of a good block is exact: what a writer makes of a number and at most three frames
 // (specs/Made.antt) is good, and gives back these frames and times (Made); every good block is what a writer makes of its own
-// frames (Exact). No function asks anything of its caller, and each contract fixes the answer (Unique).
+// frames (Exact). No public function asks anything of its caller, and each contract fixes the answer (Unique).
 pub mod block;
 pub mod fcs;
 mod table;

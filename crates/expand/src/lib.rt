@@ -5,8 +5,8 @@
 // - `headers`: the compressed headers of a frame, read. `ip`: the full headers, written.
 // - `checksum`: the UDP checksum, computed and put into its place. `copy`: bytes of a slice put into lent bytes.
 //
-// No function asks anything of its caller. Each answer equals a definition of specs/, written from the RFCs, on every
-// input, and so do the lent bytes: a refused call writes none.
+// No public function asks anything of its caller. Each answer equals a definition of specs/, written from the RFCs, on
+// every input, and so do the lent bytes: a refused call writes none.
 pub mod checksum;
 pub mod copy;
 pub mod datagram;

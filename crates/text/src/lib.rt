@@ -5,7 +5,7 @@
 // - `print`: puts a text at a place of the room and answers the place after it. A text that does not fit is not put at all, and
 //   the place stays: nothing is ever cut in the middle.
 //
-// No function asks anything of its caller, and each contract fixes the answer and the lent bytes.
+// No public function asks anything of its caller, and each contract fixes the answer and the lent bytes.
 pub mod field;
 pub mod line;
 pub mod print;
