@@ -1,11 +1,12 @@
 #!/usr/bin/env python3
 """Random runs of calls for a program over the slot table, each answer compared with model.py line by line.
 
-    calls.py --table PATH [--count 10000] [--seed 1] [--only N] [--jobs 1] [--save DIR]
+    calls.py --table PATH [--counts] [--count 10000] [--seed 1] [--only N] [--jobs 1] [--save DIR]
 
 The program reads the lines that README.md describes. Unlike a capture a run has contexts, extended addresses, short
 rooms, frames over 127 bytes, times of 64 bits and lists of gateways good and bad, and its answers show the datagrams and
-the open slots. At the first difference the run is made as small as it can be and still differ, saved, both answers are
+the open slots; with --counts, for a program over the C library (library.c), how many slots are free and how many each
+gateway of the list holds, in place of the slots. At the first difference the run is made as small as it can be and still differ, saved, both answers are
 shown, and the status is 1.
 """
 
@@ -147,6 +148,20 @@ def expected(lines, table=model):
     return [over.answer(line).rstrip() for line in lines]
 
 
+def counted(lines, answers):
+    """The answers to these lines with counts of slots in place of the open slots: the free ones, then each gateway's."""
+    gateways, said = None, []
+    for line, answer in zip(lines, answers):
+        if answer == "ok":
+            gateways = line.split(" ")[1:]
+        head, bar, slots = answer.partition(" |")
+        if line.startswith("call ") and bar:
+            owners = [slot.split(":", 1)[1].split(",")[0] for slot in slots.split()]
+            answer = " ".join([head, "|", str(8 - len(owners))] + [str(owners.count(one)) for one in gateways])
+        said.append(answer)
+    return said
+
+
 def program(path):
     """Runs the program on some lines; anything odd in how it ends is part of the answer."""
     def answer(lines):
@@ -164,13 +179,15 @@ def program(path):
     return answer
 
 
-def differs(answer, lines):
-    return answer(lines) != expected(lines)
+def by_model(counts):
+    """What the lines are answered by model.py, in the form asked for."""
+    return (lambda lines: counted(lines, expected(lines))) if counts else expected
 
 
-def first_difference(answer, seed, numbers):
+def first_difference(answer, right, seed, numbers):
     for number in numbers:
-        if differs(answer, make(seed, number)):
+        lines = make(seed, number)
+        if answer(lines) != right(lines):
             return number
     return None
 
@@ -194,14 +211,14 @@ def shrink(lines, still, most=1500):
             size //= 2
 
 
-def report(answer, seed, number, save):
-    lines = shrink(make(seed, number), lambda candidate: differs(answer, candidate))
+def report(answer, right, seed, number, save):
+    lines = shrink(make(seed, number), lambda candidate: answer(candidate) != right(candidate))
     name = os.path.join(save, f"failing-calls-{seed}-{number}.txt")
     with open(name, "w") as file:
         file.write("".join(line + "\n" for line in lines))
     print(f"FAILED: run {number} of seed {seed} is answered otherwise than by model.py")
     print(f"made smaller: {len(lines)} lines, saved as {name}")
-    ours, theirs = expected(lines), answer(lines)
+    ours, theirs = right(lines), answer(lines)
     for i in range(max(len(ours), len(theirs))):
         left = ours[i] if i < len(ours) else "(nothing)"
         right = theirs[i] if i < len(theirs) else "(nothing)"
@@ -210,28 +227,29 @@ def report(answer, seed, number, save):
 
 
 def worker(arguments):
-    path, seed, numbers = arguments
-    return first_difference(program(path), seed, numbers)
+    path, counts, seed, numbers = arguments
+    return first_difference(program(path), by_model(counts), seed, numbers)
 
 
-def compare(path, seed, numbers, jobs, save):
+def compare(path, counts, seed, numbers, jobs, save):
     if jobs > 1:
         with multiprocessing.Pool(jobs) as pool:
-            slices = [(path, seed, numbers[i::jobs]) for i in range(jobs)]
+            slices = [(path, counts, seed, numbers[i::jobs]) for i in range(jobs)]
             found = [number for number in pool.map(worker, slices) if number is not None]
         failing = min(found) if found else None
     else:
-        failing = worker((path, seed, numbers))
+        failing = worker((path, counts, seed, numbers))
     if failing is None:
         print(f"{len(numbers)} runs of seed {seed}: every line as in model.py")
         return 0
-    report(program(path), seed, failing, save)
+    report(program(path), by_model(counts), seed, failing, save)
     return 1
 
 
 def main():
     parser = argparse.ArgumentParser(description="random runs of calls for the slot table, compared with model.py")
     parser.add_argument("--table", required=True, help="the program: it reads lines and answers each with a line")
+    parser.add_argument("--counts", action="store_true", help="the program says counts in place of the open slots")
     parser.add_argument("--count", type=int, default=10000)
     parser.add_argument("--seed", type=int, default=1)
     parser.add_argument("--only", type=int, help="the run of this number only")
@@ -240,7 +258,7 @@ def main():
     given = parser.parse_args()
     numbers = range(given.count) if given.only is None else [given.only]
     path = given.table if os.path.dirname(given.table) else os.path.join(".", given.table)
-    sys.exit(compare(path, given.seed, numbers, given.jobs, given.save))
+    sys.exit(compare(path, given.counts, given.seed, numbers, given.jobs, given.save))
 
 
 if __name__ == "__main__":
