@@ -133,7 +133,7 @@ back-time s at t n y h e =
     let bs = ap₂ (λ i j. le32Bytes i ++ le32Bytes j) (sym (w .0)) (sym (w .1 .0)) in
     cast (λ v i. Stands (le32Bytes (v / 1000) ++ le32Bytes (v % 1000 * 1000)) s at i × (v < 2 ^ 32)) z (subst (λ l. Stands l s at (b .next)) bs st, w .1 .1)
 
-back-length : (s : List ℕ) (at x n : ℕ) → Bytes s → at ≤ length s → lengthField s at ≡ got x n → Stands (lengthBytes x) s at n × (x ≤ 127)
+pub back-length : (s : List ℕ) (at x n : ℕ) → Bytes s → at ≤ length s → lengthField s at ≡ got x n → Stands (lengthBytes x) s at n × (x ≤ 127)
 unfolding lengthField sameField lengthBytes
 back-length s at x n y h e =
     let a = took le32 (λ k. branch (leb k longest) (_>>=_ le32 (λ m. branch (eqb m k) (give k) (refuse 4))) (refuse 4)) s at x n e in

@@ -129,7 +129,7 @@ blocks-hold s fs y e =
     record { each = r .each; few = omega (arith, r .numbers (omega arith)) }
 
 -- ---- and where the blocks are full, the bytes are what is written
-alone : (b : ℕ) (g : List Timed) → 1 ≤ length g → length g ≤ 3 → blocksFrom b g ≡ blockOf b g
+pub alone : (b : ℕ) (g : List Timed) → 1 ≤ length g → length g ≤ 3 → blocksFrom b g ≡ blockOf b g
 unfolding blocksFrom
 alone b [] h k = absurd (omega arith)
 alone b (x ∷ []) h k = refl
@@ -137,7 +137,7 @@ alone b (x ∷ y ∷ []) h k = refl
 alone b (x ∷ y ∷ z ∷ []) h k = append-nil _
 alone b (x ∷ y ∷ z ∷ w ∷ g) h k = absurd (omega arith)
 
-three : (b : ℕ) (g fs : List Timed) → length g ≡ 3 → blocksFrom b (g ++ fs) ≡ blockOf b g ++ blocksFrom (b + 1) fs
+pub three : (b : ℕ) (g fs : List Timed) → length g ≡ 3 → blocksFrom b (g ++ fs) ≡ blockOf b g ++ blocksFrom (b + 1) fs
 unfolding blocksFrom
 three b [] fs h = absurd (omega arith)
 three b (x ∷ []) fs h = absurd (omega arith)

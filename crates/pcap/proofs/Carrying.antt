@@ -80,7 +80,7 @@ pub block-is : (s : List ℕ) → blockBytes s ≡ framesBytes (framesOf s)
 unfolding blockBytes placeBytes framesOf
 block-is s = three-places (countOf s) (timedOf 0 s) (timedOf 1 s) (timedOf 2 s) (count-small s)
 
-frames-append : (g fs : List Timed) → framesBytes (g ++ fs) ≡ framesBytes g ++ framesBytes fs
+pub frames-append : (g fs : List Timed) → framesBytes (g ++ fs) ≡ framesBytes g ++ framesBytes fs
 unfolding framesBytes
 frames-append [] fs = refl
 frames-append (f ∷ g) fs = ap (λ l. frameBytes f ++ l) (frames-append g fs) ∙ sym (append-assoc (frameBytes f) (framesBytes g) (framesBytes fs))
@@ -89,7 +89,7 @@ frames-append (f ∷ g) fs = ap (λ l. frameBytes f ++ l) (frames-append g fs) �
 pub measured : List ℕ → ℕ → ℕ → ℕ → Answer ℕ
 measured s n at b = andThen (framesFrom (blockCount (drop at s)) b (drop at s)) (λ fs. is (n + length (framesBytes fs)))
 
-head-length : length headBytes ≡ 24
+pub head-length : length headBytes ≡ 24
 unfolding headBytes le32Bytes le16Bytes
 head-length = refl
 

@@ -28,55 +28,63 @@ use Rattle.pcap.proofs.Back.{frame-back, frames-back, pcap-holds}
 use Rattle.pcap.proofs.Blocks.{Each, block-length, tail-each, first-each}
 
 -- ---- one frame more
-module _ (s : List ℕ) (k at : ℕ) (h : at < length s) (w : k ≤ at) where
-  opened : (r : Read Timed) → frameField s at ≡ r → counted s k at ≡ andThen (andThen r (λ p. choose (ltb k mostFrames) (andThen (framesField (length s - (k + 1)) (k + 1) s (p .next)) (λ q. got (p .value ∷ q .value) (q .next))) (refused 18))) (λ p. is (k + length (p .value)))
+module _ (n k : ℕ) (s : List ℕ) (j at : ℕ) (l : j < n) (h : at < length s) where
+  opened : (r : Read Timed) → frameField s at ≡ r → counted n k s j at ≡ andThen (andThen r (λ p. choose (ltb (k + j) mostFrames) (andThen (framesField (n - (j + 1)) (k + j + 1) s (p .next)) (λ q. got (p .value ∷ q .value) (q .next))) (refused 18))) (λ p. is (j + length (p .value)))
   unfolding framesField
   opened r q =
-      let e : length s - k ≡ suc (length s - (k + 1)) = omega arith in
+      let e : n - j ≡ suc (n - (j + 1)) = omega arith in
       rw (e, lt-leb (length s) at h) (rw q refl)
 
-  one-go : (f : Timed) (r : Read (List Timed)) → andThen (andThen r (λ q. got (f ∷ q .value) (q .next))) (λ p. is (k + length (p .value))) ≡ andThen r (λ p. is (k + 1 + length (p .value)))
-  one-go f (is p) = let e : k + suc (length (p .value)) ≡ k + 1 + length (p .value) = omega arith in ap is e
-  one-go f (refused n) = refl
+  one-go : (f : Timed) (r : Read (List Timed)) → andThen (andThen r (λ q. got (f ∷ q .value) (q .next))) (λ p. is (j + length (p .value))) ≡ andThen r (λ p. is (j + 1 + length (p .value)))
+  one-go f (is p) = let e : j + suc (length (p .value)) ≡ j + 1 + length (p .value) = omega arith in ap is e
+  one-go f (refused x) = refl
 
-  pub count-turn : (f : Timed) (n : ℕ) → frameField s at ≡ got f n → k < mostFrames → counted s (k + 1) n ≡ counted s k at
-  count-turn f n q m = sym (opened (got f n) q ∙ rw (lt-ltb k mostFrames m) (one-go f (framesField (length s - (k + 1)) (k + 1) s n)))
+  pub count-turn : (f : Timed) (m : ℕ) → frameField s at ≡ got f m → k + j < mostFrames → counted n k s (j + 1) m ≡ counted n k s j at
+  count-turn f m q u =
+      let e : k + (j + 1) ≡ k + j + 1 = omega arith in
+      ap (λ i. andThen (framesField (n - (j + 1)) i s m) (λ p. is (j + 1 + length (p .value)))) e
+      ∙ sym (opened (got f m) q ∙ rw (lt-ltb (k + j) mostFrames u) (one-go f (framesField (n - (j + 1)) (k + j + 1) s m)))
 
-  pub count-full : (f : Timed) (n : ℕ) → frameField s at ≡ got f n → mostFrames ≤ k → refused 18 ≡ counted s k at
-  count-full f n q m = sym (opened (got f n) q ∙ rw (le-ltb k mostFrames m) refl)
+  pub count-full : (f : Timed) (m : ℕ) → frameField s at ≡ got f m → mostFrames ≤ k + j → refused 18 ≡ counted n k s j at
+  count-full f m q u = sym (opened (got f m) q ∙ rw (le-ltb (k + j) mostFrames u) refl)
 
-  pub count-stop : (n : ℕ) → frameField s at ≡ refused n → refused n ≡ counted s k at
-  count-stop n q = sym (opened (refused n) q)
+  pub count-stop : (x : ℕ) → frameField s at ≡ refused x → refused x ≡ counted n k s j at
+  count-stop x q = sym (opened (refused x) q)
 
-end-go : (n k : ℕ) (s : List ℕ) (at : ℕ) → length s ≤ at → framesField n k s at ≡ got [] at
+pub end-go : (n k : ℕ) (s : List ℕ) (at : ℕ) → length s ≤ at → framesField n k s at ≡ got [] at
 unfolding framesField
 end-go zero k s at h = refl
 end-go (suc n) k s at h = rw (le-leb (length s) at h) refl
 
-pub count-end : (s : List ℕ) (k at : ℕ) → length s ≤ at → is k ≡ counted s k at
-count-end s k at h = sym (rw (end-go (length s - k) k s at h) (ap is (add-zero k)))
+-- no bytes are left, or no more frames are asked for
+pub count-end : (n k : ℕ) (s : List ℕ) (j at : ℕ) → length s ≤ at → is j ≡ counted n k s j at
+count-end n k s j at h = sym (rw (end-go (n - j) (k + j) s at h) (ap is (add-zero j)))
 
--- from what calls told
-module _ (s : List ℕ) (k at : ℕ) (h : at < length s) (w : k ≤ at) (y : FrameRead) (p : ofFrame s y ≡ frameField s at) where
+pub count-most : (n k : ℕ) (s : List ℕ) (j at : ℕ) → n ≤ j → is j ≡ counted n k s j at
+unfolding framesField
+count-most n k s j at h =
+    let e : n - j ≡ 0 = omega arith in
+    sym (ap (λ i. andThen (framesField i (k + j) s at) (λ p. is (j + length (p .value)))) e ∙ ap is (add-zero j))
+
+-- from what calls told; number is that of the frame
+module _ (n k : ℕ) (s : List ℕ) (j at : ℕ) (l : j < n) (h : at < length s) (y : FrameRead) (p : ofFrame s y ≡ frameField s at) where
   frame-is : (x : FrameRead) → y ≡ x → frameField s at ≡ ofFrame s x
   frame-is x q = sym p ∙ ap (ofFrame s) q
 
-  pub told-turn : (t : ℕ) (c : Cursor) (n : ℕ) → y ≡ FrameRead.Frame t c n → k < mostFrames → counted s (k + 1) (c .at + n) ≡ counted s k at
-  told-turn t c n q m = count-turn s k at h w _ (c .at + n) (frame-is (FrameRead.Frame t c n) q) m
+  pub told-turn : (number : ℕ) → number ≡ k + j → (t : ℕ) (c : Cursor) (m : ℕ) → y ≡ FrameRead.Frame t c m → number < mostFrames → counted n k s (j + 1) (c .at + m) ≡ counted n k s j at
+  told-turn number e t c m q u = count-turn n k s j at l h _ (c .at + m) (frame-is (FrameRead.Frame t c m) q) (omega arith)
 
-  pub told-full : (t : ℕ) (c : Cursor) (n : ℕ) → y ≡ FrameRead.Frame t c n → mostFrames ≤ k → refused 18 ≡ counted s k at
-  told-full t c n q m = count-full s k at h w _ (c .at + n) (frame-is (FrameRead.Frame t c n) q) m
+  pub told-full : (number : ℕ) → number ≡ k + j → (t : ℕ) (c : Cursor) (m : ℕ) → y ≡ FrameRead.Frame t c m → mostFrames ≤ number → refused 18 ≡ counted n k s j at
+  told-full number e t c m q u = count-full n k s j at l h _ (c .at + m) (frame-is (FrameRead.Frame t c m) q) (omega arith)
 
-  pub told-stop : (e : Refusal) → y ≡ FrameRead.Refused e → refused (numberOf e) ≡ counted s k at
-  told-stop e q = count-stop s k at h w (numberOf e) (frame-is (FrameRead.Refused e) q)
+  pub told-stop : (e : Refusal) → y ≡ FrameRead.Refused e → refused (numberOf e) ≡ counted n k s j at
+  told-stop e q = count-stop n k s j at l h (numberOf e) (frame-is (FrameRead.Refused e) q)
 
-  pub told-on : Bytes s → (t : ℕ) (c : Cursor) (n : ℕ) → y ≡ FrameRead.Frame t c n → (at + 16 ≤ c .at + n) × (c .at + n ≤ length s)
-  told-on b t c n q =
+  pub told-on : Bytes s → (t : ℕ) (c : Cursor) (m : ℕ) → y ≡ FrameRead.Frame t c m → c .at + m ≤ length s
+  told-on b t c m q =
       let g : at ≤ length s = omega arith in
-      let f : Timed = record { time = t; frame = take (n) (drop (c .at) s) } in
-      let x = frame-back s at f (c .at + n) b g (frame-is (FrameRead.Frame t c n) q) in
-      let l = x .stands .1 .0 in
-      (omega (arith, frame-length f), x .stands .1 .1)
+      let f : Timed = record { time = t; frame = take m (drop (c .at) s) } in
+      frame-back s at f (c .at + m) b g (frame-is (FrameRead.Frame t c m) q) .stands .1 .1
 
 -- ---- the length of blocks
 pub blocks-length : (fs : List Timed) (b : ℕ) → Each fs → length (blocksFrom b fs) ≡ 512 * ((length fs + 2) / 3)
@@ -114,8 +122,8 @@ module _ (s : List ℕ) (b : Bytes s) where
     unfolding fromPcap framesOfPcap
     head-none e q = let z : head s 0 ≡ refused (numberOf e) = sym p ∙ ap ofSkip q in rw z refl
 
-    module _ (c : Cursor) (q : y ≡ Skipped.Past c) (r : Written) (g : ofWritten r ≡ counted s 0 (c .at)) where
-      all-left : counted s 0 (c .at) ≡ andThen (framesField (length s) 0 s (c .at)) (λ p. is (0 + length (p .value)))
+    module _ (c : Cursor) (q : y ≡ Skipped.Past c) (r : Written) (g : ofWritten r ≡ counted (length s) 0 s 0 (c .at)) where
+      all-left : counted (length s) 0 s 0 (c .at) ≡ andThen (framesField (length s) 0 s (c .at)) (λ p. is (0 + length (p .value)))
       all-left = let z : length s - 0 ≡ length s = omega arith in ap (λ n. andThen (framesField n 0 s (c .at)) (λ p. is (0 + length (p .value)))) z
 
       start : head s 0 ≡ got tt (c .at)

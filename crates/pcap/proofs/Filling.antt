@@ -276,14 +276,19 @@ unfolding blocksFrom framesAt
 blocks-end zero b s at to l h = sym (put-nil to l)
 blocks-end (suc n) b s at to l h = absurd (omega arith)
 
--- ---- the frames that were read are those from the place on
-are-none : (fs : List Timed) (s : List ℕ) (at e : ℕ) → got [] at ≡ got fs e → fs ≡ framesAt (length fs) s at
-unfolding framesAt
-are-none fs s at e r = subst (λ l. l ≡ framesAt (length l) s at) (given [] fs at e r .0) refl
+-- ---- the frames that were read are those from the place on, and the next place is behind them
+Are : List Timed → List ℕ → ℕ → ℕ → Type 0
+Are fs s at e = (fs ≡ framesAt (length fs) s at) × (e ≡ behindAt (length fs) s at)
+
+are-none : (fs : List Timed) (s : List ℕ) (at e : ℕ) → got [] at ≡ got fs e → Are fs s at e
+unfolding Are framesAt behindAt
+are-none fs s at e r =
+    let g = given [] fs at e r in
+    subst (λ l. (l ≡ framesAt (length l) s at) × (e ≡ behindAt (length l) s at)) (g .0) (refl, sym (g .1))
 
 module _ (n k : ℕ) (s : List ℕ) where
-  are-go : ((at : ℕ) (fs : List Timed) (e : ℕ) → framesField n (k + 1) s at ≡ got fs e → fs ≡ framesAt (length fs) s at) → (at : ℕ) (fs : List Timed) (e : ℕ) (t : Bool) → choose t (got [] at) (andThen (frameField s at) (λ p. choose (ltb k mostFrames) (andThen (framesField n (k + 1) s (p .next)) (λ q. got (p .value ∷ q .value) (q .next))) (refused 18))) ≡ got fs e → fs ≡ framesAt (length fs) s at
-  unfolding framesAt frameAt afterAt
+  are-go : ((at : ℕ) (fs : List Timed) (e : ℕ) → framesField n (k + 1) s at ≡ got fs e → Are fs s at e) → (at : ℕ) (fs : List Timed) (e : ℕ) (t : Bool) → choose t (got [] at) (andThen (frameField s at) (λ p. choose (ltb k mostFrames) (andThen (framesField n (k + 1) s (p .next)) (λ q. got (p .value ∷ q .value) (q .next))) (refused 18))) ≡ got fs e → Are fs s at e
+  unfolding Are framesAt behindAt frameAt afterAt
   are-go ih at fs e true r = are-none fs s at e r
   are-go ih at fs e false r =
       let a = took frameField (λ f s i. choose (ltb k mostFrames) (andThen (framesField n (k + 1) s i) (λ q. got (f ∷ q .value) (q .next))) (refused 18)) s at fs e r in
@@ -292,13 +297,23 @@ module _ (n k : ℕ) (s : List ℕ) where
       let z = ih (a .next) (b .value) (b .next) (b .first) in
       let f = ap (valueOr noFrame) (a .first) in
       let g = ap (nextOr at) (a .first) in
-      subst (λ l. l ≡ framesAt (length l) s at) (given (a .value ∷ b .value) fs (b .next) e (b .rest) .0)
-      (ap₂ _∷_ (sym f) (z ∙ ap (λ i. framesAt (length (b .value)) s i) (sym g)))
+      let w = given (a .value ∷ b .value) fs (b .next) e (b .rest) in
+      subst (λ l. (l ≡ framesAt (length l) s at) × (e ≡ behindAt (length l) s at)) (w .0)
+      (ap₂ _∷_ (sym f) (z .0 ∙ ap (λ i. framesAt (length (b .value)) s i) (sym g)), sym (w .1) ∙ z .1 ∙ ap (λ i. behindAt (length (b .value)) s i) (sym g))
 
-frames-are : (n k : ℕ) (s : List ℕ) (at : ℕ) (fs : List Timed) (e : ℕ) → framesField n k s at ≡ got fs e → fs ≡ framesAt (length fs) s at
+frames-go : (n k : ℕ) (s : List ℕ) (at : ℕ) (fs : List Timed) (e : ℕ) → framesField n k s at ≡ got fs e → Are fs s at e
 unfolding framesField
-frames-are zero k s at fs e r = are-none fs s at e r
-frames-are (suc n) k s at fs e r = are-go n k s (λ at fs e r. frames-are n (k + 1) s at fs e r) at fs e (leb (length s) at) r
+frames-go zero k s at fs e r = are-none fs s at e r
+frames-go (suc n) k s at fs e r = are-go n k s (λ at fs e r. frames-go n (k + 1) s at fs e r) at fs e (leb (length s) at) r
+
+module _ (n k : ℕ) (s : List ℕ) (at : ℕ) (fs : List Timed) (e : ℕ) (r : framesField n k s at ≡ got fs e) where
+  pub frames-are : fs ≡ framesAt (length fs) s at
+  unfolding Are
+  frames-are = frames-go n k s at fs e r .0
+
+  pub frames-behind : e ≡ behindAt (length fs) s at
+  unfolding Are
+  frames-behind = frames-go n k s at fs e r .1
 
 -- ---- the whole move
 pub record Came (s : List ℕ) (k at : ℕ) : Type 0 where
@@ -329,7 +344,7 @@ module _ (s : List ℕ) (y : Bytes s) (h : Skipped) (p : ofSkip h ≡ head s 0) 
   pub start-within : c .at ≤ length s
   start-within = back-head s tt (c .at) y start .1 .1
 
-  module _ (r : Written) (g : ofWritten r ≡ counted s 0 (c .at)) (k : ℕ) (u : r ≡ Written.Bytes k) where
+  module _ (r : Written) (g : ofWritten r ≡ counted (length s) 0 s 0 (c .at)) (k : ℕ) (u : r ≡ Written.Bytes k) where
     pub came : Came s k (c .at)
     came =
         let z : length s - 0 ≡ length s = omega arith in

@@ -6,3 +6,6 @@ pub mod Carrying
 pub mod Fields
 pub mod Counting
 pub mod Filling
+pub mod Passing
+pub mod Windows
+pub mod Streaming

@@ -41,9 +41,9 @@ carried (suc n) s = blockBytes (take 512 s) ++ carried n (drop 512 s)
 abbrev pub carriedAll : List ℕ → List ℕ
 carriedAll s = carried (blockCount s) s
 
--- how many frames there are in pcap, k of them read before the place
-abbrev pub counted : List ℕ → ℕ → ℕ → Answer ℕ
-counted s k at = andThen (framesField (length s - k) k s at) (λ p. is (k + length (p .value)))
+-- how many frames there are in pcap from a place on, at most n, where k were read before; j of them are counted already
+abbrev pub counted : ℕ → ℕ → List ℕ → ℕ → ℕ → Answer ℕ
+counted n k s j at = andThen (framesField (n - j) (k + j) s at) (λ p. is (j + length (p .value)))
 
 -- ---- what both forms can hold
 pub record Holdable (fs : List Timed) : Type 0 where

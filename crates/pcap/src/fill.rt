@@ -83,7 +83,7 @@ fn put_places(s: &[u8], at: usize, n: usize, out: &mut [u8], to: usize) -> usize
 }
 
 // A block of the next n frames; the place after them.
-fn put_block(s: &[u8], at: usize, n: usize, number: u32, out: &mut [u8], to: usize) -> usize
+pub fn put_block(s: &[u8], at: usize, n: usize, number: u32, out: &mut [u8], to: usize) -> usize
     requires { ⌜ (n ≤ 3) × ((at ≤ length (now s)) × (to + 512 ≤ length (now out))) ⌝ }
     ensures { λ r. ⌜ (r ≡ behindAt n (now (s .entry)) at) × (now (out .exit) ≡ put to (blockOf number (framesAt n (now (s .entry)) at)) (now (out .entry))) ⌝ }
 {

@@ -2,9 +2,13 @@
 ghost use mathlib.Core.Path.{_≡_};
 ghost use Prim.Native.Nat.{_+_, _≤_, min};
 ghost use lib.ListN.{length, take, drop};
+ghost use Rattle.octets.specs.Read.{is, refused};
+ghost use Rattle.octets.specs.Refusal.{numberOf};
 ghost use Rattle.octets.specs.Write.{ofWritten, put};
 ghost use Rattle.capture.specs.Block.{goodBlock};
 ghost use Rattle.pcap.specs.Moves.{toPcap, sized, placed, lengthed, placeBytes, blockBytes, carriedAll};
+ghost use Rattle.pcap.specs.Frames.{headBytes};
+ghost use Rattle.pcap.specs.Streaming.{goBlock, dueAfter};
 use super::put::FRONT;
 use super::put::HEAD;
 use super::put::put_frame;
@@ -133,5 +137,56 @@ pub fn to_pcap(capture: &[u8], out: &mut [u8]) -> Written
             Written::Bytes(n)
         }
         Written::Refused(e) => Written::Refused(e),
+    }
+}
+
+// A capture that goes to pcap a block at a time: the number of the block that is due.
+pub struct ToPcap {
+    pub block: u64,
+}
+
+// What is due after a call, and how many bytes of pcap it put, or why it put none.
+pub struct WentOn {
+    pub after: ToPcap,
+    pub answer: Written,
+}
+
+// The file header, at the front of the room; 7 where that is too small.
+pub fn file_header(out: &mut [u8]) -> Written
+    ensures { λ r. ⌜ (ofWritten r ≡ sized (is headBytes) (now (out .entry))) × (now (out .exit) ≡ placed (is headBytes) (now (out .entry))) ⌝ }
+{
+    if out.len() < HEAD {
+        return Written::Refused(Refusal::NoRoom);
+    }
+    put_head(out);
+    Written::Bytes(HEAD)
+}
+
+// Nothing was put, and what is due stays.
+fn stay(block: u64, e: Refusal) -> WentOn
+    ensures { λ r. ⌜ (r .after .block ≡ block) × (ofWritten (r .answer) ≡ refused (numberOf e)) ⌝ }
+{
+    WentOn {
+        after: ToPcap { block },
+        answer: Written::Refused(e),
+    }
+}
+
+// The block that is due, at the front of the room. A bad block is refused, 15; then a room that is too small, 7: 429 bytes are
+// always enough. A refusal writes nothing, and what is due stays.
+pub fn one_block(g: ToPcap, block: &[u8], out: &mut [u8]) -> WentOn
+    ensures { λ r. ⌜ (ofWritten (r .answer) ≡ sized (goBlock (g .block) (now (block .entry))) (now (out .entry))) × ((r .after .block ≡ dueAfter (g .block) (sized (goBlock (g .block) (now (block .entry))) (now (out .entry)))) × (now (out .exit) ≡ placed (goBlock (g .block) (now (block .entry))) (now (out .entry)))) ⌝ }
+{
+    if !is_good(block, g.block) {
+        return stay(g.block, Refusal::BadBlock);
+    }
+    let n = block_len(block);
+    if out.len() < n {
+        return stay(g.block, Refusal::NoRoom);
+    }
+    put_block(block, out, 0);
+    WentOn {
+        after: ToPcap { block: g.block + 1 },
+        answer: Written::Bytes(n),
     }
 }
