@@ -9,13 +9,18 @@ use lib.Dec.{leb, ltb}
 use lib.ListN.{length, take, drop, length-drop}
 use borrow.Author.Tests.{le-leb, lt-leb, leb-true, leb-false, ltb-true, ltb-false}
 use Rattle.octets.specs.Read.{Answer, is, refused, Read, got, andThen, choose, give}
+use Rattle.octets.specs.Write.{ofWritten}
+use Rattle.octets.specs.declared.write.Written.{Written}
+use Rattle.octets.proofs.Unique.{unique, written-one}
 use Rattle.capture.specs.Block.{Timed, framesOf, judged}
 use Rattle.capture.specs.File as file
 use Rattle.capture.specs.Made.{blockOf, Bytes}
 use Rattle.capture.proofs.Parts.{bytes-drop}
 use Rattle.pcap.specs.Frames.{blocksFrom, blocksOf, blockCount, framesFrom, headBytes, framesBytes, pcapOf, head, frameField, framesField, mostFrames, valueOnly, framesOfPcap}
-use Rattle.pcap.specs.Moves.{toPcap, fromPcap, blockBytes}
-use Rattle.pcap.specs.Streaming.{goBlock, goAll, streamTo, Made, comeBlock, comeAll, streamFrom, Wide}
+use Rattle.pcap.specs.Moves.{toPcap, fromPcap, sized, placed, blockBytes}
+use Rattle.pcap.specs.Streaming.{goBlock, dueAfter, goAll, streamTo, Made, comeBlock, lengthIn, usedIn, framesIn, placedIn, comeAll, streamFrom, Wide}
+use Rattle.pcap.specs.declared.going.WentOn.{WentOn}
+use Rattle.pcap.specs.declared.coming.CameOn.{CameOn}
 use Rattle.pcap.proofs.There.{frame-length}
 use Rattle.pcap.proofs.Back.{took, passed, given, frame-back, back-head}
 use Rattle.pcap.proofs.Blocks.{alone, three}
@@ -216,3 +221,22 @@ module _ (ws p : List ℕ) (y : Bytes p) (v : Wide ws) (l : length p ≤ length 
   pub stream-from : (w : ℕ) → 24 ≤ w → streamFrom w ws p ≡ fromPcap p
   unfolding fromPcap framesOfPcap
   stream-from w h = ap (λ r. andThen r (λ q. comeAll ws 0 (drop (q .next) p))) (head-window w p h) ∙ head-go (head p 0) refl
+
+-- ---- any two answers that meet a contract are equal, and so is the room after them
+abbrev wentOf : Written → ℕ → WentOn
+wentOf a b = record { after = record { block = b }; answer = a }
+
+abbrev cameOf : Written → ℕ → ℕ → CameOn
+cameOf a u d = record { after = record { frames = d }; used = u; answer = a }
+
+module _ (a : Answer (List ℕ)) (b : ℕ) (room : List ℕ) (y z : WentOn) (l m : List ℕ) where
+  pub went-one : (ofWritten (y .answer) ≡ sized a room) × ((y .after .block ≡ dueAfter b (sized a room)) × (l ≡ placed a room)) → (ofWritten (z .answer) ≡ sized a room) × ((z .after .block ≡ dueAfter b (sized a room)) × (m ≡ placed a room)) → (y ≡ z) × (l ≡ m)
+  went-one p q =
+      let x = unique ofWritten written-one (sized a room) (y .answer) (z .answer) (p .0) (q .0) in
+      (ap₂ wentOf x (p .1 .0 ∙ sym (q .1 .0)), p .1 .1 ∙ sym (q .1 .1))
+
+module _ (a : Answer Made) (k : ℕ) (room : List ℕ) (y z : CameOn) (l m : List ℕ) where
+  pub came-one : (ofWritten (y .answer) ≡ lengthIn a) × ((y .used ≡ usedIn a) × ((y .after .frames ≡ framesIn k a) × (l ≡ placedIn a room))) → (ofWritten (z .answer) ≡ lengthIn a) × ((z .used ≡ usedIn a) × ((z .after .frames ≡ framesIn k a) × (m ≡ placedIn a room))) → (y ≡ z) × (l ≡ m)
+  came-one p q =
+      let x = unique ofWritten written-one (lengthIn a) (y .answer) (z .answer) (p .0) (q .0) in
+      (ap (λ i. cameOf i (y .used) (y .after .frames)) x ∙ ap₂ (λ u d. cameOf (z .answer) u d) (p .1 .0 ∙ sym (q .1 .0)) (p .1 .1 .0 ∙ sym (q .1 .1 .0)), p .1 .1 .1 ∙ sym (q .1 .1 .1))
