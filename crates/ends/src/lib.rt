@@ -3,7 +3,9 @@
 // - `open` reads the arguments. None: standard input and output. Two: the first is read, and what is written goes to a new file
 //   beside the second, named as that with `.part` behind it. Anything else is answered by a usage line.
 // - `close` ends it. A file that is whole takes the second name; one that is not is removed, so that no half file is left.
-// - `refuse` and `refuse_at` say on standard error why nothing more is moved.
+ghost use mathlib.Core.Path.{_≡_};
+ghost use lib.ListN.{length};
+ghost use Rattle.libc.specs.Io.{Status};
 use text::field::upto;
 use text::print;
 
@@ -75,7 +77,9 @@ fn open_named(from: &[u8], part: &mut [u8]) -> Ends {
 }
 
 // Opens what the arguments name. The name of the file to write goes to `part`.
-pub fn open(usage: &[u8], part: &mut [u8]) -> Ends {
+pub fn open(usage: &[u8], part: &mut [u8]) -> Ends
+    ensures { λ _. ⌜ length (now (part .exit)) ≡ length (now (part .entry)) ⌝ }
+{
     let n = os::arg_count();
     if n == 1 {
         return standard();
@@ -93,10 +97,12 @@ pub fn open(usage: &[u8], part: &mut [u8]) -> Ends {
     open_named(upto(&from, m), part)
 }
 
-// Ends it, with all moved or not.
-pub fn close(e: Ends, whole: bool, part: &[u8]) {
+// Ends it, with all moved or not: 0, or -1 where no file was left under the second name.
+pub fn close(e: Ends, whole: bool, part: &[u8]) -> i32
+    ensures { λ r. ⌜ Status r ⌝ }
+{
     if e.part == 0 {
-        return;
+        return 0;
     }
     libc::close(e.input);
     let closed = libc::close(e.output);
@@ -106,29 +112,10 @@ pub fn close(e: Ends, whole: bool, part: &[u8]) {
     if whole && closed == 0 {
         let moved = os::rename(upto(part, e.part), upto(part, e.name));
         if moved == 0 {
-            return;
+            return 0;
         }
         os::fail(upto(part, e.name));
     }
     os::unlink(upto(part, e.part));
-}
-
-// The line `no R`.
-pub fn refuse(number: u8) {
-    let mut line = [0u8; 64];
-    let a = print::text(&mut line, 0, b"no ");
-    let b = print::decimal(&mut line, a, number as u64);
-    let c = print::text(&mut line, b, b"\n");
-    io::write_all(2, upto(&line, c));
-}
-
-// The line `no R at block B`.
-pub fn refuse_at(number: u8, block: u64) {
-    let mut line = [0u8; 64];
-    let a = print::text(&mut line, 0, b"no ");
-    let b = print::decimal(&mut line, a, number as u64);
-    let c = print::text(&mut line, b, b" at block ");
-    let d = print::decimal(&mut line, c, block);
-    let e = print::text(&mut line, d, b"\n");
-    io::write_all(2, upto(&line, e));
+    -1
 }

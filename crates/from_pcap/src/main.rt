@@ -11,6 +11,7 @@ use pcap::coming::one_block;
 use pcap::read::head;
 use text::field::upto;
 use text::line;
+use text::print;
 
 const BLOCK: usize = 512;
 
@@ -70,6 +71,15 @@ fn sent(fd: i32, out: &[u8], n: usize) -> bool {
     done
 }
 
+// The line `no R` on standard error.
+fn refuse(number: u8) {
+    let mut line = [0u8; 64];
+    let a = print::text(&mut line, 0, b"no ");
+    let b = print::decimal(&mut line, a, number as u64);
+    let c = print::text(&mut line, b, b"\n");
+    io::write_all(2, upto(&line, c));
+}
+
 // The block of the next frames behind the blocks that were put before, for which there is room.
 fn put(due: FromPcap, input: &[u8], at: usize, out: &mut [u8], next: usize) -> Moved {
     if input.len() < at {
@@ -99,7 +109,7 @@ fn put(due: FromPcap, input: &[u8], at: usize, out: &mut [u8], next: usize) -> M
             }
         }
         Written::Refused(e) => {
-            ends::refuse(e.number());
+            refuse(e.number());
             rested(after, at, next, false)
         }
     }
@@ -196,7 +206,7 @@ fn first(
             pass_on(m, fd, input, all, ended, out)
         }
         Skipped::Refused(e) => {
-            ends::refuse(e.number());
+            refuse(e.number());
             stopped(due)
         }
     }

@@ -10,6 +10,7 @@ use pcap::going::one_block;
 use text::field::part;
 use text::field::upto;
 use text::line;
+use text::print;
 
 const BLOCK: usize = 512;
 
@@ -37,6 +38,17 @@ fn stopped(due: ToPcap) -> Kept {
         more: false,
         whole: false,
     }
+}
+
+// The line `no R at block B` on standard error.
+fn refuse(number: u8, block: u64) {
+    let mut line = [0u8; 64];
+    let a = print::text(&mut line, 0, b"no ");
+    let b = print::decimal(&mut line, a, number as u64);
+    let c = print::text(&mut line, b, b" at block ");
+    let d = print::decimal(&mut line, c, block);
+    let e = print::text(&mut line, d, b"\n");
+    io::write_all(2, upto(&line, e));
 }
 
 // One block behind what was put before.
@@ -69,7 +81,7 @@ fn step(m: Moved, block: &[u8], out: &mut [u8]) -> Moved {
             }
         }
         Written::Refused(e) => {
-            ends::refuse_at(e.number(), after.block);
+            refuse(e.number(), after.block);
             Moved {
                 due: after,
                 next: at,
@@ -116,7 +128,7 @@ fn last(due: ToPcap, rest: usize) -> Kept {
             whole: true,
         };
     }
-    ends::refuse_at(15, due.block);
+    refuse(15, due.block);
     stopped(due)
 }
 
