@@ -16,7 +16,7 @@ sys.dont_write_bytecode = True
 sys.path.insert(0, str(TOP / "tests"))
 import model  # noqa: E402
 
-GATEWAYS = "gateways s0001@abcd s0002@abcd s0003@abcd s0004@abcd"     # those of `heard`, as a line of `calls`
+GATEWAYS = ["s0001@abcd", "s0002@abcd", "s0003@abcd", "s0004@abcd"]     # those of `heard`, as `calls` writes them
 ROOMS = f"- {model.LENT_BYTES} {model.OUTPUT_BYTES}"
 
 
@@ -96,6 +96,8 @@ def ask(lines, program):
         program = [built] if built.exists() else [sys.executable, TOP / "tests/model.py", "table"]
     run = subprocess.run(program, input="\n".join(lines) + "\n", stdout=subprocess.PIPE, text=True)
     answers = run.stdout.splitlines()
+    if answers and answers[0] in ("bad", "no 14"):
+        sys.exit(f"{lines[0]}: at most four, s0001@abcd for a short address and its PAN, e and 16 digits for an extended one")
     if run.returncode != 0 or len(answers) != len(lines) or answers[0] != "ok":
         sys.exit(f"{program[0]}: it does not answer the lines of tests/README.md (status {run.returncode})")
     return answers[1:]
@@ -116,10 +118,11 @@ def belongs(frame, key):
     return frame.size > 0 and words <= set(key)
 
 
-def tell(data, program=None):
-    """The frames of a capture with what became of each, the datagrams that came out, and the first bad block or None."""
+def tell(data, program=None, gateways=()):
+    """The frames of a capture with what became of each, the datagrams that came out, and the first bad block or None. The
+    gateways are those of `heard` where none are given."""
     heard, bad = frames_of(data)
-    lines = [GATEWAYS] + [f"call {time} {frame.hex() or '-'} {ROOMS}" for time, frame in heard]
+    lines = [" ".join(["gateways", *(gateways or GATEWAYS)])] + [f"call {time} {frame.hex() or '-'} {ROOMS}" for time, frame in heard]
     frames, datagrams, held, parts = [], [], {}, {}
     for number, ((time, data), answer) in enumerate(zip(heard, ask(lines, program)), 1):
         frame = Frame(number, time)

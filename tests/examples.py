@@ -16,6 +16,7 @@ import model
 TOP = os.path.join(os.path.dirname(os.path.abspath(__file__)), "..")
 FOLDER = os.path.join(TOP, "examples")
 HEARD = os.path.join(TOP, "target", "bin", "heard")
+CALLS = os.path.join(TOP, "target", "bin", "calls")
 
 CONTROLLER = f.short(0xabcd)
 LAST_MONTH, THIS_MONTH, NEIGHBOUR = f.short(1), f.short(2), f.short(0x1234)
@@ -55,6 +56,27 @@ def two_gateways():
         pair = [line(time, old_frames[i], "last month's"), line(time + 5, new_frames[j], "this month's")]
         lines += pair
         time += 12
+    return lines
+
+
+HERE, THERE = 0xabcd, 0x1234
+
+
+def buildings():
+    """The blocks of two gateways that have one short address in two PANs."""
+    return {HERE: patch_block(LAST_MONTH, "PATCH 2026-10 block 3 of 40\n", 400),
+            THERE: patch_block(LAST_MONTH, "PATCH 2026-11 block 3 of 40\n", 400)}
+
+
+def two_buildings():
+    lines = ["# Two buildings, one short address: 0001 in PAN abcd still sends last month's block, 0001 in PAN 1234 this month's.",
+             "# Both have 400 bytes, and both gateways chose the tag 0007."]
+    sent = {pan: f.frames(block, 7, LAST_MONTH, CONTROLLER, limit=80, pan=pan) for pan, block in buildings().items()}
+    for i in range(len(sent[HERE])):
+        # Not always in turn, and the third and fourth part of this month's block change places.
+        j = {2: 3, 3: 2}.get(i, i)
+        lines.append(line(1000 + 12 * i, sent[HERE][i], "last month's, in PAN abcd"))
+        lines.append(line(1005 + 12 * i, sent[THERE][j], "this month's, in PAN 1234"))
     return lines
 
 
@@ -115,7 +137,7 @@ def witness():
     ]
 
 
-EXAMPLES = {"patch": patch, "two-gateways": two_gateways, "damaged": damaged, "witness": witness}
+EXAMPLES = {"patch": patch, "two-gateways": two_gateways, "two-buildings": two_buildings, "damaged": damaged, "witness": witness}
 
 
 def printed(capture):
@@ -125,10 +147,25 @@ def printed(capture):
     return subprocess.run([HEARD], input=capture, stdout=subprocess.PIPE, check=True).stdout
 
 
+def both_come_out():
+    """To a table of both gateways each building's block comes out, to the byte: the model's answers, and those of `calls` where it is
+    built."""
+    calls = [["call", *line.split()[:2], "-", "16384", "2047"] for line in two_buildings() if line[0] != "#"]
+    text = "\n".join(["gateways s0001@abcd s0001@1234"] + [" ".join(call) for call in calls]) + "\n"
+    wanted = [f"out {len(block)} {block.hex()}" for block in buildings().values()]
+    for program in [[CALLS]] * os.path.exists(CALLS) + [[sys.executable, model.__file__, "table"]]:
+        answers = subprocess.run(program, input=text, stdout=subprocess.PIPE, check=True, text=True).stdout.splitlines()
+        told = [answer.partition(" |")[0] for answer in answers]
+        if told != ["ok"] + ["kept"] * (len(calls) - 2) + wanted:
+            print(f"{program[-1]}: the blocks of two-buildings do not come out as they were sent")
+            return 1
+    return 0
+
+
 def main(arguments):
     if arguments not in (["write"], ["check"]):
         sys.exit(__doc__)
-    wrong = 0
+    wrong = both_come_out()
     for name, make in EXAMPLES.items():
         text = "\n".join(make()) + "\n"
         capture = subprocess.run([os.path.join(FOLDER, "make-capture")], input=text.encode(), stdout=subprocess.PIPE,

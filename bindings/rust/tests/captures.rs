@@ -41,10 +41,30 @@ fn lines(capture: &[u8]) -> String {
 
 #[test]
 fn captures_read_as_heard_reads_them() {
-    for name in ["two-gateways", "patch", "damaged", "witness"] {
+    for name in ["two-gateways", "two-buildings", "patch", "damaged", "witness"] {
         let expected = String::from_utf8(example(&format!("{name}.expected"))).unwrap();
         assert_eq!(lines(&example(&format!("{name}.cap"))), expected, "{name}");
     }
+}
+
+// One short address in two PANs, one tag and size: a table of both gateways hands out both blocks, neither mixed.
+#[test]
+fn two_buildings() {
+    let (mut table, mut out, mut blocks) = (Table::new(), [0; OUT_BYTES], Vec::new());
+    let both = [0xabcd, 0x1234].map(|pan| Gateway::short(1).in_pan(pan));
+    table.begin(&both).expect("two gateways");
+    for block in example("two-buildings.cap").chunks_exact(512) {
+        for place in block[6..402].chunks_exact(132).take(block[4] as usize) {
+            let time = u32::from_le_bytes(place[..4].try_into().unwrap()) as u64;
+            match table.receive(time, &place[5..][..place[4] as usize], &[], &mut out) {
+                Ok(Outcome::Kept) => assert_eq!(both.map(|g| table.held(g)), [1, (time > 1000) as usize]),
+                Ok(Outcome::Out(datagram)) => blocks.push(String::from_utf8_lossy(&datagram[48..75]).into_owned()),
+                Err(refusal) => panic!("{time}: no {}", refusal.number()),
+            }
+        }
+    }
+    assert_eq!(blocks, ["PATCH 2026-10 block 3 of 40", "PATCH 2026-11 block 3 of 40"]);
+    assert_eq!(table.free(), 8);
 }
 
 // A first part of 56 bytes from gateway 0001, of a datagram of 136.
