@@ -502,7 +502,8 @@ MUTANTS = [
     ("the Rust's source PAN, versions 0 and 1", BOTH,
      "return dst != 0, src != 0 and not (dst != 0 and compressed)",
      "return dst != 0, dst == 0 or (src != 0 and not compressed)"),
-    ("the Rust's source PAN, version 2", BOTH,
+    # Without a destination and with its PAN left out a frame has none, which is 9 to heard's gateways in any case.
+    ("the Rust's source PAN, version 2", CALLS,
      "        return False, not compressed\n"
      "    if dst == 3",
      "        return False, True\n"
