@@ -6,6 +6,7 @@ requirements, answers the same lines. Source, tag and place of a frame are read 
 """
 
 import pathlib
+import re
 import subprocess
 import sys
 from collections import Counter
@@ -166,6 +167,13 @@ def come_out(frame, parts):
 def refusals(frames):
     """How many frames were refused, by number."""
     return dict(sorted(Counter(f.value for f in frames if f.answer == "no").items()))
+
+
+def reasons():
+    """The words for each refusal: those of `lift_reason` in include/lift.h."""
+    header = (TOP / "include/lift.h").read_text()
+    words = dict(re.findall(r'case (LIFT_\w+): return "([^"]*)";', header))
+    return {int(number): words.get(name, "?") for name, number in re.findall(r"\b(LIFT_\w+) = (\d+)", header)}
 
 
 def read_capture(arguments, usage):

@@ -52,6 +52,7 @@ def refusals():
     source = (TOP / "crates/octets/src/refusal.rt").read_text()
     header = (TOP / "include/lift.h").read_text()
     page = (TOP / "docs/REFUSALS.md").read_text()
+    binding = (TOP / "bindings/rust/src/lib.rs").read_text()
     numbers = re.findall(r"Refusal::(\w+) => (\d+)", source)
     expect(len(numbers) >= 17, "the refusals of the crate octets are found")
     for name, number in numbers:
@@ -59,6 +60,9 @@ def refusals():
         expect(re.search(rf"\b{shout} = {number}\b", header), f"lift.h: {shout} = {number}")
         expect(f"case {shout}: return" in header, f"lift_reason: {shout}")
         expect(f"| {number} | `{shout}` |" in page, f"REFUSALS.md: {number} is {shout}")
+        words = re.search(rf'case {shout}: return ("[^"]*");', header)
+        rust = re.search(rf"\(Refusal::{name}, {number}, (\"[^\"]*\")\)", binding)
+        expect(int(number) > 14 or (rust and words and rust.group(1) == words.group(1)), f"bindings/rust has lift_reason's words for {name}")
 
 
 def theorems():
@@ -96,13 +100,13 @@ SUMMARIES = {
     12  0001@abcd                  136  0008      40  7,11-12
     13  0002@abcd                   60  -          0  13
 2 datagrams out of 14 frames
-refused  1 bytes end too soon                       1
-refused  2 not 6LoWPAN as taken here                1
-refused  8 time goes back                           1
-refused  9 not from a gateway                       1
-refused 10 bad part                                 1
-refused 11 clashes with bytes taken                 1
-refused 13 secured, not Data, or extension header   1
+refused  1       1 times: the bytes end before a needed field
+refused  2       1 times: the leading bits are not this header's
+refused  8       1 times: the time is earlier than the last one taken
+refused  9       1 times: the source with its PAN is not a gateway of the table
+refused 10       1 times: a part that no datagram can have
+refused 11       1 times: the part clashes with bytes taken
+refused 13       1 times: secured, not a Data frame, or an extension header
 block 5 is bad (15); what follows it was not read
 """,
     "witness": """ frame  source                   bytes  tag       ms  frames it came from
