@@ -5,8 +5,8 @@
 
 There: `to_pcap` on the example captures and on drawn ones. Scapy reads each file, and so does mergecap, which puts a batch into one file
 that tshark shows: every frame, its time and its two lengths must be those of the capture. Scapy writes the same frames as pcap: the
-very bytes. Back: what editcap makes of each batch's first files, and what Scapy writes, must come back as the blocks; and what is not
-our pcap must be refused with its number. README.md says what must be set in the peers.
+very bytes. Back: what editcap and tshark make of each batch's first files, and what Scapy writes, must come back as the blocks; and
+what is not our pcap must be refused with its number. README.md says what must be set in the peers.
 """
 
 import argparse
@@ -90,10 +90,10 @@ def there(to, back, batch, folder):
         if own:
             paths.append(path)
             frames += own
-        if i < 10 and own:
-            run(["editcap", "-F", "pcap", path, path + ".e"])
-            came = run([back], open(path + ".e", "rb").read())
-            assert not came.stderr and came.stdout == pcap.blocks(own), ("editcap", came.stderr)
+        for words in (["editcap", "-F", "pcap", path, path + ".e"], ["tshark", "-r", path, "-F", "pcap", "-w", path + ".e"])[:(i < 10) + (i < 3)]:
+            run(words)
+            came = run([back], open(path + ".e", "rb").read()) if own else None
+            assert not own or not came.stderr and came.stdout == pcap.blocks(own), (words, came.stderr)
     merged = os.path.join(folder, "merged")
     run(["mergecap", "-a", "-F", "pcap", "-w", merged, *paths])
     same("tshark", tshark_reads(merged), frames)
