@@ -94,7 +94,7 @@ impl Answerer {
             return Some(());
         }
         let rust = call(|| ieee802154::Repr::parse(&self.input));
-        // Outside the two listed cases the values are those of 01 too.
+        // Outside the listed cases the values are those of 01 too.
         if let (Some(Ok(a)), Ok(b)) = (&rust, &rule)
             && a != b
             && !listed
@@ -120,6 +120,10 @@ impl Answerer {
             src_pan_id: f.maybe_word()?.map(Pan),
             src_addr: f.link()?,
         };
+        if self.as_01 && rules::omits(&repr) {
+            let bytes = rules::omitted(&repr);
+            return self.writer(f, out, bytes.len(), |room| room[..bytes.len()].copy_from_slice(&bytes));
+        }
         self.writer(f, out, repr.buffer_len(), |room| repr.emit(room))
     }
 

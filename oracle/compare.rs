@@ -3,7 +3,7 @@
 use std::fs::File;
 use std::io::{self, BufRead, BufReader};
 
-use crate::oracle::answer::{Answerer, listed, mac_01};
+use crate::oracle::answer::{Answerer, listed, mac_01, silence_panics};
 use crate::oracle::rules::{self, Listed};
 use crate::oracle::text::Fields;
 
@@ -49,6 +49,8 @@ struct Counts {
     both_absent: usize,
     source_only: usize,
     label: usize,
+    suppressed: usize,
+    omitted: usize,
     differences: usize,
 }
 
@@ -75,6 +77,9 @@ impl Judge {
             mac_01(rules::mac(&self.bytes), &mut answer);
             return Some((case, answer));
         }
+        if command == b"mac.emit" {
+            return self.wanted_write(line);
+        }
         if command != b"iphc.parse" {
             return None;
         }
@@ -83,6 +88,19 @@ impl Judge {
         rules::label(&self.bytes).filter(|label| *label > 0xffff)?;
         self.as_01.answer(line, &mut answer);
         answer.starts_with(b"ok ").then_some((Listed::Label, answer))
+    }
+}
+
+impl Judge {
+    /// A record that leaves its sequence number out: TYPE below 4, SEQ none, VERSION 2.
+    fn wanted_write(&mut self, line: &[u8]) -> Option<(Listed, Vec<u8>)> {
+        let fields: Vec<&[u8]> = line.split(|b| *b == b' ').collect();
+        if !matches!(fields.get(1)?, [b'0', b'0'..=b'3']) || *fields.get(5)? != b"-" || *fields.get(7)? != b"02" {
+            return None;
+        }
+        let mut answer = Vec::new();
+        self.as_01.answer(line, &mut answer);
+        (answer != b"bad").then_some((Listed::Omitted, answer))
     }
 }
 
@@ -111,6 +129,8 @@ fn compare_line(lines: &Lines, ours: &Lines, theirs: &Lines, judge: &mut Judge, 
         Some((Listed::BothAbsent, _)) if well => counts.both_absent += 1,
         Some((Listed::SourceOnly, _)) if well => counts.source_only += 1,
         Some((Listed::Label, _)) if well => counts.label += 1,
+        Some((Listed::Suppressed, _)) if well => counts.suppressed += 1,
+        Some((Listed::Omitted, _)) if well => counts.omitted += 1,
         _ => {
             counts.differences += 1;
             if counts.differences <= SHOWN {
@@ -127,6 +147,7 @@ fn compare_line(lines: &Lines, ours: &Lines, theirs: &Lines, judge: &mut Judge, 
 pub fn run(lines: &str, ours: &str, theirs: &str) -> io::Result<()> {
     let (mut lines, mut ours, mut theirs) = (Lines::open(lines)?, Lines::open(ours)?, Lines::open(theirs)?);
     let (mut counts, mut judge) = (Counts::default(), Judge::new());
+    silence_panics();
     loop {
         let more = lines.next()?;
         for answers in [&mut ours, &mut theirs] {
@@ -143,6 +164,7 @@ pub fn run(lines: &str, ours: &str, theirs: &str) -> io::Result<()> {
     if counts.differences > 0 {
         return Err(io::Error::other(format!("{} of {} answers differ", counts.differences, counts.lines)));
     }
-    println!("{} {} {} {} {}", counts.lines, counts.agreed, counts.both_absent, counts.source_only, counts.label);
+    let listed = [counts.both_absent, counts.source_only, counts.label, counts.suppressed, counts.omitted];
+    println!("{} {} {}", counts.lines, counts.agreed, listed.map(|n| n.to_string()).join(" "));
     Ok(())
 }

@@ -191,7 +191,7 @@ fn writes_random(sink: &mut Sink, rng: &mut Rng, numbers: Numbers) {
 
 /// Where the fields of the header end that a frame control implies, with this security control byte.
 pub fn mac_bounds(control: &Control, security: u8) -> Vec<usize> {
-    let mut bounds = vec![3];
+    let mut bounds = vec![control.fields_at()];
     let mut add = |n: usize| bounds.push(bounds.last().unwrap() + n);
     if control.has_addressing() {
         let (dst_pan, dst, src_pan, src) = control.layout();
@@ -210,8 +210,8 @@ pub fn mac_bounds(control: &Control, security: u8) -> Vec<usize> {
     bounds
 }
 
-/// The lengths at which something may change: each end of a field, one short and one more of it. Where the Rust reads a PAN that 01 does
-/// not, its ends lie 2 further.
+/// The lengths at which something may change: each end of a field, one short and one more of it. Where the Rust reads a PAN or a sequence
+/// number that the documents do not, its ends lie 1 to 3 further.
 pub fn mac_lengths(control: &Control, security: u8) -> Vec<usize> {
     let mut lengths = vec![0, 1, 2, 3, 127, 128];
     if control.supported().is_ok() {

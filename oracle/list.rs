@@ -4,6 +4,7 @@
 
 use std::io::{self, Write};
 
+use crate::oracle::answer::silence_panics;
 use crate::oracle::compare::Judge;
 use crate::oracle::generate::{self, any_mac, damaged_one, iphc_between, iphc_bytes, iphc_written, mac_frame, mac_lengths};
 use crate::oracle::rules::{Control, Listed};
@@ -53,6 +54,7 @@ fn without_listed(lines: &[u8]) -> (Vec<u8>, Vec<u8>) {
 }
 
 pub fn run() -> io::Result<()> {
+    silence_panics();
     let mut out = io::stdout().lock();
     let mut labelled = Vec::new();
     for (place, (title, section)) in SECTIONS.iter().enumerate() {
@@ -111,7 +113,7 @@ fn mac_types(sink: &mut Sink, rng: &mut Rng) {
         }
     }
     for flags in 0..64 {
-        // Security, pending and acknowledgement; then the reserved bit, sequence suppression and the IE bit, which are ignored.
+        // Security, pending and acknowledgement; then the reserved bit, sequence suppression (other types and versions) and the IE bit, which are ignored.
         let flags = (flags & 7) << 3 | (flags >> 3) << 7;
         let control = Control(control(1, 2, 2, 2, true).0 | flags);
         sink.read("mac.parse", &mac_frame(rng, &control, 0)[..20]);
@@ -420,6 +422,31 @@ fn listed(sink: &mut Sink, rng: &mut Rng) {
         sink.plain(&format!("iphc.parse 6b33{label}3a e0011223344556677 sabcd -"));
         sink.plain(&format!("iphc.parse 633300{label}3a e0011223344556677 sabcd -"));
         sink.plain(&format!("iphc.parse 63b301ff{label}3a e0011223344556677 sabcd -"));
+    }
+    suppressed(sink, rng);
+}
+
+fn suppressed(sink: &mut Sink, rng: &mut Rng) {
+    sink.plain("# Version 2, bit 8, types 0 to 3: no sequence number is read; the Rust reads one (change request 9)");
+    sink.plain("mac.parse 012100");
+    for frame_type in 0..4 {
+        for (dst, src) in [(2, 2), (0, 3), (3, 3)] {
+            let compression = rng.one_in(2);
+            listed_frame(sink, rng, Control(control(frame_type, 2, dst, src, compression).0 | 1 << 8));
+        }
+    }
+    sink.plain("# Version 2, types 0 to 3, a record without a sequence number: none is written, and bit 8 says so; the Rust writes 0");
+    sink.plain("mac.emit 01 0 0 0 - 1 02 - a - a =");
+    for n in 0..8u8 {
+        let omitted = ieee802154::Repr {
+            frame_type: FrameType(n % 4),
+            frame_version: FrameVersion(2),
+            sequence_number: None,
+            ..any_mac(rng)
+        };
+        for room in ["=", "-1", "+3"] {
+            sink.mac_write(&omitted, room);
+        }
     }
 }
 

@@ -8,6 +8,7 @@ use std::panic;
 use std::time::Instant;
 
 use crate::oracle::answer::{ext_number, listed, silence_panics};
+use crate::oracle::compare::Judge;
 use crate::oracle::generate;
 use crate::oracle::rules;
 use crate::oracle::text::Fields;
@@ -364,10 +365,12 @@ fn reads(kind: &str, read: Reader, good: bool) -> io::Result<(Vec<u64>, Vec<u8>)
     Err(io::Error::other(format!("native: too few lines of {kind}")))
 }
 
-/// A writer's calls: as many of its lines, evenly chosen, without those that differ in their room alone.
+/// A writer's calls: as many of its lines, evenly chosen, without those that differ in their room alone and the listed ones.
 fn writes(kind: &str, command: &str) -> io::Result<Vec<u64>> {
+    let mut judge = Judge::new();
     let mut all: Vec<Vec<u64>> =
-        lines(kind, 0, 1)?.iter().filter(|line| line.starts_with(command.as_bytes())).filter_map(|line| write_numbers(line)).collect();
+        lines(kind, 0, 1)?.iter().filter(|line| line.starts_with(command.as_bytes()) && judge.wanted(line).is_none())
+            .filter_map(|line| write_numbers(line)).collect();
     all.dedup();
     if all.is_empty() {
         return Err(io::Error::other(format!("native: no {command} in {kind}")));

@@ -2,7 +2,7 @@
 //!
 //! "Readers refuse at the first step that fails in the Rust's reading order." A reader here is that order as a list of steps, over the
 //! number of bytes that are left. It answers the number of bytes consumed or the refusal. Only the MAC reader also gives the values, since
-//! 01 decides against the Rust in two cases.
+//! 01 decides against the Rust in two cases, and change request 9 of document 02 in a third, for the MAC writer too.
 
 use crate::wire::ieee802154::{Address, Pan, Repr};
 
@@ -52,7 +52,7 @@ pub fn key(src: Option<Address>, dst: Option<Address>) -> Result<(), u8> {
 
 // ---- MAC
 
-/// The cases where 01 or 02 decides against the Rust: two of its `addr_present_flags`, and the flow label.
+/// Where 01 or 02 decides against the Rust: two cases of its `addr_present_flags`, the flow label, and sequence numbers left out.
 #[derive(Clone, Copy, PartialEq, Eq)]
 pub enum Listed {
     /// Versions 0 and 1, both addresses absent, no compression: the Rust reads a source PAN. "a present address brings its PAN".
@@ -61,6 +61,10 @@ pub enum Listed {
     SourceOnly,
     /// TF=00 and TF=01: the Rust keeps the low 16 bits of the flow label. 02, item 1: "RFC 6282 gives 20 bits".
     Label,
+    /// Version 2, bit 8, a Beacon, Data, Acknowledgement or MAC command frame: "no sequence byte". The Rust reads one.
+    Suppressed,
+    /// Such a record without a number: "Emit sets the bit and omits the byte". The Rust writes 0.
+    Omitted,
 }
 
 /// A frame control field, by the bits of IEEE 802.15.4.
@@ -104,6 +108,16 @@ impl Control {
         if self.version() == 3 || self.dst() == 1 || self.src() == 1 || old_absent { Err(RESERVED) } else { Ok(()) }
     }
 
+    /// "version 2 frames with bit 8 set and no sequence byte [..] For such Beacon, Data, Acknowledgement and MacCommand frames read none."
+    pub fn suppressed(&self) -> bool {
+        self.version() == 2 && self.bit(8) && self.frame_type() < 4
+    }
+
+    /// Where the addressing fields begin.
+    pub fn fields_at(&self) -> usize {
+        if self.suppressed() { 2 } else { 3 }
+    }
+
     /// Beacon, Data, MAC command and Multipurpose have addressing, Acknowledgement from version 2 on.
     pub fn has_addressing(&self) -> bool {
         matches!(self.frame_type(), 0 | 1 | 3 | 5) || (self.frame_type() == 2 && self.version() == 2)
@@ -129,10 +143,13 @@ impl Control {
         (dst_pan, dst, src_pan, src)
     }
 
-    /// Whether this is one of the two listed differences.
+    /// Whether this is one of the listed differences.
     pub fn listed(&self) -> Option<Listed> {
         if self.supported().is_err() || !self.has_addressing() {
             return None;
+        }
+        if self.suppressed() {
+            return Some(Listed::Suppressed);
         }
         match (self.version(), self.dst(), self.src(), self.compression()) {
             (0 | 1, 0, 0, false) => Some(Listed::BothAbsent),
@@ -185,13 +202,13 @@ pub fn security_len(control: u8) -> usize {
 pub fn mac(frame: &[u8]) -> Result<(Repr, usize), u8> {
     let control = control(frame)?;
     control.supported()?;
-    let mut place = Place { bytes: frame, at: 3 };
+    let mut place = Place { bytes: frame, at: control.fields_at() };
     let mut repr = Repr {
         frame_type: control.frame_type().into(),
         security_enabled: control.security(),
         frame_pending: control.bit(4),
         ack_request: control.bit(5),
-        sequence_number: matches!(control.frame_type(), 0..=3 | 5).then_some(frame[2]),
+        sequence_number: (!control.suppressed() && matches!(control.frame_type(), 0..=3 | 5)).then_some(frame[2]),
         pan_id_compression: control.compression(),
         frame_version: control.version().into(),
         dst_pan_id: None,
@@ -212,6 +229,20 @@ pub fn mac(frame: &[u8]) -> Result<(Repr, usize), u8> {
         place.take(security_len(first))?;
     }
     Ok((repr, place.at))
+}
+
+/// "Emit sets the bit and omits the byte for those types in version 2 when the record has none", by the record's own numbers.
+pub fn omits(repr: &Repr) -> bool {
+    repr.sequence_number.is_none() && repr.frame_version.0 == 2 && repr.frame_type.0 < 4
+}
+
+/// "its length falls by one", and all else is the Rust's.
+pub fn omitted(repr: &Repr) -> Vec<u8> {
+    let mut bytes = vec![0; repr.buffer_len()];
+    repr.emit(&mut bytes);
+    bytes[1] |= 1;
+    bytes.remove(2);
+    bytes
 }
 
 // ---- 6LoWPAN

@@ -103,9 +103,10 @@ def pans_in(src, dst, version, compress):
 
 
 def mac(src, dst, sequence=0, pan=None, src_pan=None, version=0, compress=True, frame_type=1, security=None,
-        pending=False, ack=False):
+        pending=False, ack=False, elements=False):
     """A MAC header. `security` is an auxiliary security header (its bytes), or None. The PAN is the source's own where
-    none is given."""
+    none is given. A sequence number of None is suppressed (7.2.2.7): bit 8, and no byte. `elements` sets bit 9
+    (7.2.2.8)."""
     modes = {0: 0, 2: 2, 8: 3}
     if pan is None:
         pan = getattr(src, "pan", None)
@@ -116,7 +117,10 @@ def mac(src, dst, sequence=0, pan=None, src_pan=None, version=0, compress=True, 
     dst_pan_in, src_pan_in = pans_in(src, dst, version, compress)
     control = frame_type | (security is not None) << 3 | pending << 4 | ack << 5 | bool(compress) << 6
     control |= modes[len(dst)] << 10 | version << 12 | modes[len(src)] << 14
-    header = struct.pack("<HB", control, sequence & 0xff)
+    control |= (sequence is None) << 8 | bool(elements) << 9
+    header = struct.pack("<H", control)
+    if sequence is not None:
+        header += bytes([sequence & 0xff])
     if dst_pan_in:
         header += struct.pack("<H", pan)
     header += dst[::-1]
@@ -124,6 +128,21 @@ def mac(src, dst, sequence=0, pan=None, src_pan=None, version=0, compress=True, 
         header += struct.pack("<H", src_pan)
     header += src[::-1]
     return header + (security or b"")
+
+
+# ------------------------------------------------------------------------------------------------- relays' headers
+
+def mesh(origin, final, hops, deep=None):
+    """RFC 4944 5.2: 1 0, V, F, hops left; then originator and final address, V or F set for a short one. Hops left of 15
+    or more stand in a byte of their own behind 1111 (`deep`: others too)."""
+    deep = hops >= 15 if deep is None else deep
+    first = 0x80 | (len(origin) == 2) << 5 | (len(final) == 2) << 4 | (15 if deep else hops)
+    return bytes([first]) + (bytes([hops]) if deep else b"") + origin + final
+
+
+def broadcast(number):
+    """RFC 4944 11.1: LOWPAN_BC0, 01 010000, and a sequence number."""
+    return bytes([0b01010000, number])
 
 
 # --------------------------------------------------------------------------------------------------------------- IPHC
@@ -312,6 +331,9 @@ def check():
     assert udp_nhc(0x0050, 0xf000, None).hex() == "f5005000"
     assert frag1(1280, 7).hex() == "c5000007" and fragn(1280, 7, 12).hex() == "e50000070c"
     assert mac(short(0x1234), BROADCAST, 5).hex() == "418805cdabffff3412"
+    assert mac(short(0x1234), BROADCAST, None, version=2).hex() == "41a9cdabffff3412"
+    assert mesh(short(1), short(0xabcd), 5).hex() == "b50001abcd"
+    assert (mesh(extended(1), BROADCAST, 15) + broadcast(0x42)).hex() == "9f0f0000000000000001ffff5042"
     # RFC 768's sum, worked by hand: ::1 to ::1, ports 1 and 2, no data: 1+1+8+17+1+2+8 = 38, so ffd9.
     assert udp_datagram(ip("::1"), ip("::1"), 1, 2, b"")[46:48].hex() == "ffd9"
     print("ok")

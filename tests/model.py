@@ -77,6 +77,7 @@ class Mac:
     src_pan: object
     src: object
     length: int            # where the payload begins
+    elements: bool = False # information elements
 
 
 def pans_carried(version, dst, src, compressed):
@@ -127,7 +128,11 @@ def read_mac(frame):
 
     # "None only where the frame type has no addressing": types 4, 6 and 7, and Acknowledgement below version 2.
     addressed = frame_type in (0, 1, 3, 5) or (frame_type == 2 and version == 2)
-    reader = Reader(frame, 3)
+    # "version 2 frames with bit 8 set and no sequence byte [..] For such Beacon, Data, Acknowledgement and MacCommand
+    # frames read none."
+    suppressed = version == 2 and bool(control & 0x0100) and frame_type in (0, 1, 2, 3)
+    reader = Reader(frame, 2)
+    number = None if suppressed else reader.byte()
     dst_pan = dst = src_pan = src = None
     if addressed:
         with_dst_pan, with_src_pan = pans_carried(version, dst_mode, src_mode, compressed)
@@ -143,7 +148,8 @@ def read_mac(frame):
         reader.take(0 if security & 0x20 else 4)
         reader.take((0, 1, 5, 9)[security >> 3 & 3])
     return Mac(frame_type, secured, bool(control & 0x0010), bool(control & 0x0020), compressed, version,
-               frame[2] if frame_type in (0, 1, 2, 3, 5) else None, dst_pan, dst, src_pan, src, reader.at)
+               number if frame_type in (0, 1, 2, 3, 5) else None, dst_pan, dst, src_pan, src, reader.at,
+               version == 2 and bool(control & 0x0200))
 
 
 # ------------------------------------------------------------------------------------- mesh and broadcast headers (02)
@@ -476,7 +482,7 @@ class Table:
             if self.slots[s] and time - self.slots[s].opened >= LIFETIME:
                 self.slots[s] = None
         mac = read_mac(frame)
-        if mac.secured or mac.frame_type != 1:
+        if mac.secured or mac.elements or mac.frame_type != 1:
             raise Refused(13)
         mac = through_relays(mac, frame)
         if sender_of(mac) not in self.gateways:
@@ -781,6 +787,12 @@ def check():
     assert (k11.dst_pan, k11.dst.hex(), k11.src.hex(), k11.length) == (0xabcd, "ffff", "1234", 9)
     assert number_of(read_mac, bytes.fromhex("010005")).length == 3
     assert number_of(read_mac, bytes.fromhex("41a0053412")).src.hex() == "1234"
+    # Change request 9: none is read in version 2 with bit 8, but in version 1, and for a Multipurpose frame; below 3
+    # bytes stays 1.
+    for text, number, length in ("41a9cdabffff3412", None, 8), ("419905cdabffff3412", 5, 9), ("45a905cdabffff3412", 5, 9):
+        one = read_mac(bytes.fromhex(text))
+        assert (one.sequence, one.length, one.src.hex()) == (number, length, "1234")
+    assert number_of(read_mac, bytes.fromhex("0121")) == 1
 
     # Expansion by itself: 4 first, 10 next to last, 7 last; an elided checksum stays 0 in a first part.
     def alone(text, room, size=None):

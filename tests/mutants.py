@@ -446,17 +446,10 @@ MUTANTS = [
 
     # MAC.
     ("9 before 13", BOTH,
-     "        if mac.secured or mac.frame_type != 1:\n"
-     "            raise Refused(13)\n"
-     "        mac = through_relays(mac, frame)\n"
-     "        if sender_of(mac) not in self.gateways:\n"
-     "            raise Refused(9)\n",
-     "        if not mac.secured and mac.frame_type == 1:\n"
-     "            mac = through_relays(mac, frame)\n"
+     "        if mac.secured or",
      "        if sender_of(mac) not in self.gateways:\n"
      "            raise Refused(9)\n"
-     "        if mac.secured or mac.frame_type != 1:\n"
-     "            raise Refused(13)\n"),
+     "        if mac.secured or"),
     ("6 before 9", BOTH,
      "        if sender_of(mac) not in self.gateways:\n"
      "            raise Refused(9)\n"
@@ -479,10 +472,92 @@ MUTANTS = [
      "        payload",
      "            pass\n"
      "        payload"),
-    ("secured frames are taken", BOTH, "if mac.secured or mac.frame_type != 1:", "if mac.frame_type != 1:"),
-    ("any frame type is taken", BOTH,
-     "if mac.secured or mac.frame_type != 1:",
-     "if mac.secured or mac.frame_type not in (1, 5):"),
+    # Relays' headers.
+    ("V and F are exchanged", BOTH,
+     "originator = reader.take(2 if first & 0b100000 else 8)",
+     "originator = reader.take(2 if first & 0b10000 else 8)",
+     "dst=reader.take(2 if first & 0b10000 else 8)",
+     "dst=reader.take(2 if first & 0b100000 else 8)"),
+    ("V, F set is an extended address", BOTH,
+     "originator = reader.take(2 if first & 0b100000 else 8)",
+     "originator = reader.take(8 if first & 0b100000 else 2)",
+     "dst=reader.take(2 if first & 0b10000 else 8)",
+     "dst=reader.take(8 if first & 0b10000 else 2)"),
+    ("originator and final address are exchanged", BOTH,
+     "mac = replace(mac, src=originator, dst=",
+     "mac = replace(mac, dst=originator, src="),
+    ("mesh addresses with the low byte first", BOTH,
+     "mac = replace(mac, src=originator,",
+     "mac = replace(mac, src=originator[::-1],"),
+    ("no deep byte", BOTH, "reader.take(2 if first & 0b1111 == 0b1111 else 1)", "reader.take(1)"),
+    ("a deep byte below 15 is refused", BOTH,
+     "            reader.take(2 if first & 0b1111 == 0b1111 else 1)\n",
+     "            taken = reader.take(2 if first & 0b1111 == 0b1111 else 1)\n"
+     "            if len(taken) == 2 and taken[1] < 15:\n"
+     "                raise Refused(3)\n"),
+    ("a second mesh header is read", BOTH, "            if kinds:\n", "            if 'broadcast' in kinds:\n"),
+    ("a mesh header behind a broadcast one is read", BOTH, "            if kinds:\n", "            if 'mesh' in kinds:\n"),
+    ("a second broadcast header is read", BOTH, "            if \"broadcast\" in kinds:\n", "            if False:\n"),
+    ("a second header is 3 once it is read", BOTH,
+     "            if kinds:\n"
+     "                raise Refused(3)\n",
+     "            if kinds:\n"
+     "                reader.take(5)\n"
+     "                raise Refused(3)\n"),
+    ("no number in a broadcast header", BOTH, "            reader.take(2)\n        else:", "            reader.take(1)\n        else:"),
+    ("any 01010 begins a broadcast header", BOTH, "first == 0b01010000", "first >> 3 == 0b01010"),
+    ("a broadcast header needs a mesh one", BOTH, "elif first == 0b01010000:", "elif first == 0b01010000 and kinds:"),
+    ("nothing behind a relay is 1", BOTH,
+     "    return replace(mac, length=reader.at)\n",
+     "    if kinds and not reader.rest():\n"
+     "        raise Refused(1)\n"
+     "    return replace(mac, length=reader.at)\n"),
+    ("9 tests the MAC's address", BOTH,
+     "        mac = through_relays(mac, frame)\n"
+     "        if mac.src not in self.gateways:\n",
+     "        hop, mac = mac, through_relays(mac, frame)\n"
+     "        if hop.src not in self.gateways:\n"),
+    ("6 tests the MAC's address", BOTH,
+     "        mac = through_relays(mac, frame)\n",
+     "        hop, mac = mac, through_relays(mac, frame)\n",
+     "        if mac.dst == ABSENT:\n",
+     "        if hop.dst == ABSENT:\n"),
+    ("relays before 13", BOTH,
+     "        if mac.secured or",
+     "        through_relays(mac, frame)\n"
+     "        if mac.secured or"),
+    ("9 before the relays' refusals", BOTH,
+     "        mac = through_relays(mac, frame)\n",
+     "        try:\n"
+     "            mac = through_relays(mac, frame)\n"
+     "        except Refused:\n"
+     "            if mac.src not in self.gateways:\n"
+     "                raise Refused(9)\n"
+     "            raise\n"),
+
+    ("secured frames are taken", BOTH, "if mac.secured or mac.elements", "if mac.elements"),
+    ("any frame type is taken", BOTH, "mac.frame_type != 1:", "mac.frame_type not in (1, 5):"),
+    ("information elements are let through", BOTH, "mac.elements or mac.frame_type", "mac.frame_type"),
+    ("information elements in any version", BOTH, "version == 2 and bool(control & 0x0200)", "bool(control & 0x0200)"),
+    ("information elements before the MAC header", BOTH,
+     "        mac = read_mac(frame)\n",
+     "        if len(frame) > 2 and frame[1] & 0x32 == 0x22:\n"
+     "            raise Refused(13)\n"
+     "        mac = read_mac(frame)\n"),
+    ("a suppressed sequence number is read", BOTH, "None if suppressed else reader.byte()", "reader.byte()"),
+    ("suppression in version 1", BOTH, "version == 2 and bool(control & 0x0100)", "version > 0 and bool(control & 0x0100)"),
+    ("suppression in version 0 too", BOTH, "version == 2 and bool(control & 0x0100)", "bool(control & 0x0100)"),
+    ("suppression for Multipurpose too", BOTH,
+     "bool(control & 0x0100) and frame_type in (0, 1, 2, 3)",
+     "bool(control & 0x0100) and frame_type in (0, 1, 2, 3, 5)"),
+    ("suppression for Data alone", BOTH,
+     "bool(control & 0x0100) and frame_type in (0, 1, 2, 3)",
+     "bool(control & 0x0100) and frame_type == 1"),
+    ("suppression, and two bytes are enough", BOTH,
+     "    if len(frame) < 3:\n"
+     "        raise Refused(1)\n",
+     "    if len(frame) < (2 if len(frame) == 2 and frame[1] & 0x31 == 0x21 else 3):\n"
+     "        raise Refused(1)\n"),
     ("the security header is not read", BOTH,
      "    if secured:\n",
      "    if False:\n"),

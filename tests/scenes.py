@@ -121,8 +121,31 @@ def header(rng, src, dst, sequence=None):
             break
     own = f.PAN if wanted is None else wanted
     other = rng.choice((own, 0xffff, 1, 0x1234)) if src_in else own
-    return f.mac(src, dst, rng.randrange(256) if sequence is None else sequence, other, own, version, compress,
+    number = rng.randrange(256) if sequence is None else sequence
+    if version == 2 and chance(rng, 0.5):
+        number = None                       # suppressed, in whole frames and parts alike
+    return f.mac(src, dst, number, other, own, version, compress,
                  pending=chance(rng, 0.05), ack=chance(rng, 0.1))
+
+
+def relayed(rng, src, dst):
+    """The same two addresses in a mesh header, behind a MAC header whose addresses are those of a hop; or in the MAC
+    header, with a broadcast header behind it."""
+    number = f.broadcast(rng.randrange(256)) if chance(rng, 0.3) else b""
+    if number and chance(rng, 0.3):
+        return header(rng, src, dst) + number
+    hops = rng.choice((0, 1, 5, 14, 15, 16, 255, rng.randrange(256)))
+    ends = [rng.choice((f.short(1), f.short(0x77), f.short(0xffff), f.extended(0x77), b"")) for _ in range(2)]
+    return header(rng, *ends) + f.mesh(src, dst, hops, hops >= 15 or chance(rng, 0.1)) + number
+
+
+def front(rng, src, dst, payload):
+    """What stands before a payload: mostly a bare MAC header."""
+    if src and dst and chance(rng, 0.2):
+        one = relayed(rng, src, dst)
+        if len(one) + len(payload) <= 127:
+            return one
+    return header(rng, src, dst)
 
 
 def room(src, dst):
@@ -160,7 +183,7 @@ class Stream:
                            **self.knobs)
 
     def frame(self, part):
-        return header(self.rng, self.src, self.dst) + part.payload
+        return front(self.rng, self.src, self.dst, part.payload) + part.payload
 
     def frames(self):
         return [self.frame(part) for part in self.parts]
@@ -514,7 +537,7 @@ def whole(rng, world, start):
         payload = compressed + base[covered:]
         if chance(rng, 0.3):
             payload = f.frag1(len(base), rng.choice((7, rng.randrange(0x10000)))) + payload
-        frame = header(rng, src, dst) + payload
+        frame = front(rng, src, dst, payload) + payload
         if len(frame) <= 127:
             order.append(frame)
     return timed(rng, order, start)
@@ -557,9 +580,11 @@ def mac_noise(rng, src, dst):
         security = bytes([control]) + rng.randbytes(max(0, needed - 1 - rng.choice((0, 0, 0, 1))))
         return f.mac(src, dst, security=security, version=rng.choice((0, 1, 2)))
     if kind == 4:
-        return f.mac(src, dst, frame_type=rng.choice((0, 2, 3, 4, 5, 6, 7)), version=rng.choice((0, 1, 2)))
+        one = bytearray(f.mac(src, dst, frame_type=rng.choice((0, 2, 3, 4, 5, 6, 7)), version=rng.choice((0, 1, 2))))
+        one[1] |= rng.choice((0, 0, 1, 2, 3))
+        return bytes(one)
     if kind == 5:
-        return f.mac(src, dst, version=2, compress=chance(rng, 0.5))
+        return f.mac(src, dst, rng.choice((0, None)), version=2, compress=chance(rng, 0.5), elements=chance(rng, 0.3))
     if kind == 6:
         one = bytearray(f.mac(src, dst))
         one[1] |= rng.choice((0x30, 0x10, 0x20))
@@ -569,19 +594,47 @@ def mac_noise(rng, src, dst):
         one[1] = one[1] & 0x33 | rng.choice((0x04, 0x40, 0x44, 0x48, 0x84, 0x08, 0x80, 0x00, 0x0c, 0xc0, 0xcc))
         return bytes(one)
     if kind == 8:
-        one = bytearray(f.mac(src, dst))
-        one[1] |= rng.choice((0x01, 0x02, 0x03))   # sequence suppression, information elements: ignored
+        one = bytearray(f.mac(src, dst, version=rng.choice((0, 1))))
+        one[1] |= rng.choice((0x01, 0x02, 0x03))   # suppression, information elements: nothing below version 2
         return bytes(one)
     if kind == 9:
         return header(rng, dst, src)
     return f.mac(src, dst, version=rng.choice((0, 1, 2)), compress=chance(rng, 0.5))
 
 
+def header_alone(rng, src, dst):
+    """A header of any type and version with nothing behind it, whole, a byte short or a byte more, or two bytes of it."""
+    kind, version = rng.choice((0, 1, 1, 2, 3, 5, 5, 7)), rng.choice((1, 2, 2, 2))
+    src, dst = rng.choice(((src, dst), (src, dst), (b"", b""), (b"", dst)))
+    one = bytearray(f.mac(src, dst, version=version, frame_type=kind, compress=chance(rng, 0.5)) + b"\x7a")
+    one[1] |= rng.choice((0, 1, 1, 1, 2, 3))
+    return bytes(one[:rng.choice((2, len(one) - 3, len(one) - 2, len(one) - 2, len(one) - 1, len(one) - 1, len(one)))])
+
+
+def relay_noise(rng, world, src, dst):
+    """Headers of relays in any order and number, or cut."""
+    origin = rng.choice((src, src, rng.choice(world.strangers))) or f.short(5)
+    final = dst or f.short(6)
+    pieces = [f.mesh(origin, final, rng.choice((0, 7, 14, 15, 200)), chance(rng, 0.2) or None) if chance(rng, 0.5)
+              else f.broadcast(rng.randrange(256)) for _ in range(rng.choice((1, 1, 2, 2, 3)))]
+    behind = rng.choice((b"", bytes.fromhex("7a333a01020304"), bytes.fromhex("e030000705aaaaaaaaaaaaaaaa"), b"\x50", b"\xb0",
+                         b"\x51\x07", b"\x57"))
+    headers = b"".join(pieces)
+    if chance(rng, 0.3):
+        headers, behind = headers[:rng.randrange(len(headers) + 1)], b""
+    ends = rng.choice(((src, dst), (f.short(0x77), f.short(0x78)), (b"", dst), (src, b"")))
+    return header(rng, *ends) + headers + behind
+
+
 def noise_frame(rng, world):
     """A frame that is most likely refused somewhere."""
     src = rng.choice(world.gateways) if world.gateways and chance(rng, 0.85) else rng.choice(world.strangers)
     dst = rng.choice(world.destinations)
-    kind = rng.randrange(10)
+    kind = rng.randrange(13)
+    if kind == 12:
+        return header_alone(rng, src, dst)
+    if kind > 9:
+        return relay_noise(rng, world, src, dst)[:127]
     if kind == 0:
         return rng.randbytes(rng.choice((0, 1, 2, 3, 4, 9, 20, 127)))
     if kind < 4:

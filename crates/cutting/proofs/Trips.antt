@@ -70,7 +70,7 @@ use Rattle.cutting.proofs.Backs.{Ours, udpField, headers-full}
 
 -- ---- the MAC header
 mac-go : (p : Pan) (a b : Address) (q t n : ℕ) → (isPresent a && isPresent b) ≡ true → roundTrips (macOf (record { pan = p; src = a; dst = b; sequence = q; tag = t; limit = n })) ≡ true
-unfolding roundTrips supported hasAddressing carried carried01 pansStand
+unfolding roundTrips supported hasAddressing carried carried01 pansStand Mac.suppresses
 mac-go p Absent b q t n e = cc
 mac-go p (Short a) Absent q t n e = cc
 mac-go p (Extended a) Absent q t n e = cc

@@ -17,8 +17,8 @@ use Rattle.octets.proofs.Spans.{not-refused}
 use Rattle.ieee802154.specs.Control.{bitOf, controlOf, wordOf, hasSequence, hasAddressing, pans, carried}
 use Rattle.ieee802154.specs.Addressing.{panField, addressField, side, sides, noSide, addressing, panOr, modeOf, fieldLength, fieldBytes}
 use Rattle.ieee802154.specs.Security.{counterLength, keyLength, auxiliaryLength, auxiliary}
-use Rattle.ieee802154.specs.Mac.{sequenceOf, reprOf, header, sequenceOr, controlFor, lengthOf, frontBytes, bytesOf}
-use Rattle.ieee802154.specs.RoundTrips.{hasByte, hasPan, hasAddress, same, pansStand, roundTrips}
+use Rattle.ieee802154.specs.Mac.{sequenceOf, reprOf, header, sequenceOr, hasByte, suppresses, controlFor, lengthOf, frontBytes, bytesOf}
+use Rattle.ieee802154.specs.RoundTrips.{hasPan, hasAddress, same, pansStand, roundTrips}
 use Rattle.ieee802154.specs.declared.addr.Address.the-variants.{Absent, Short, Extended}
 use Rattle.ieee802154.specs.declared.addr.Pan.{Pan}
 use Rattle.ieee802154.specs.declared.addr.PanField.{PanField}
@@ -29,8 +29,8 @@ use Rattle.ieee802154.specs.declared.control.Carried.{Carried}
 use Rattle.ieee802154.specs.declared.addressing.Side.{Side}
 use Rattle.ieee802154.specs.declared.addressing.Addressing.{Addressing}
 use Rattle.ieee802154.specs.declared.header.Repr.{Repr}
-use Rattle.ieee802154.proofs.Lengths.{panWidth, addressWidth, addressingWidth, auxiliaryWidth, controlIn, split, got-one, HeaderIn, header-in, spans-side, auxiliary-length}
-use Rattle.ieee802154.proofs.RoundTrips.{pans-eta, addressed-sequence, PansStand, Domain, masked, panBytes, sideOf, sidesOf, writtenFields, fieldsOf, bytes-are, length-least, control-back, masked-same, suffices}
+use Rattle.ieee802154.proofs.Lengths.{panWidth, addressWidth, addressingWidth, auxiliaryWidth, controlIn, split, got-one, RestIn, HeaderIn, header-in, spans-side, auxiliary-length}
+use Rattle.ieee802154.proofs.RoundTrips.{pans-eta, addressed-sequence, PansStand, Domain, masked, panBytes, sideOf, sidesOf, writtenFields, fieldsOf, sequenceBytes, bytes-are, omits-is, control-back, masked-same, suffices}
 use Rattle.ieee802154.proofs.WriteSteps.{length-field, length-bytes}
 
 -- ---- two bytes of 0 from a place on, and then r
@@ -211,68 +211,68 @@ width-is (AddressField.Some Absent) = refl
 width-is (AddressField.Some (Short x)) = refl
 width-is (AddressField.Some (Extended x)) = refl
 
--- the fields behind the first three bytes f, read as they were written
-record Fields (c : Bool) (dp : PanField) (da : AddressField) (sp : PanField) (sa : AddressField) (s : List ℕ) (m : ℕ) : Type 0 where
+-- the fields behind the first bytes, two or three, read as they were written
+record Fields (c : Bool) (dp : PanField) (da : AddressField) (sp : PanField) (sa : AddressField) (s : List ℕ) (f m : ℕ) : Type 0 where
   front : List ℕ
-  three : length front ≡ 3
+  in-front : length front ≡ f
   stands : s ≡ front ++ writtenFields c dp da sp sa
-  is-long : length s ≡ choose c 5 7 + (fieldLength da + fieldLength sa)
-  ends : m ≡ 3 + ((panWidth (hasPan dp) + fieldLength da) + (panWidth (hasPan sp) + fieldLength sa))
-  are-read : TwoIn (side (hasPan dp) (record { 0 = modeOf da })) (side (hasPan sp) (record { 0 = modeOf sa })) s 3 (sideOf dp da) (sideOf sp sa) m
+  is-long : length s ≡ f + (choose c 2 4 + (fieldLength da + fieldLength sa))
+  ends : m ≡ f + ((panWidth (hasPan dp) + fieldLength da) + (panWidth (hasPan sp) + fieldLength sa))
+  are-read : TwoIn (side (hasPan dp) (record { 0 = modeOf da })) (side (hasPan sp) (record { 0 = modeOf sa })) s f (sideOf dp da) (sideOf sp sa) m
 
 -- without a destination PAN two bytes of 0 stand in its place, and the destination is read too early
-zeros-source : (c : Bool) (da : AddressField) (sp : PanField) (sa : AddressField) (s : List ℕ) (m : ℕ) (x : Fields c PanField.None da sp sa s m) → Zeros s (x .are-read .middle) (choose c (fieldBytes sa) (le16Bytes (panOr sp) ++ fieldBytes sa))
-zeros-source c da sp sa s m x =
-    zeros-side PanField.None da s 3 (x .are-read .middle) (choose c (fieldBytes sa) (le16Bytes (panOr sp) ++ fieldBytes sa)) (record { front = x .front; stands = x .stands; ends = x .three }) (x .are-read .first-read)
+zeros-source : (c : Bool) (da : AddressField) (sp : PanField) (sa : AddressField) (s : List ℕ) (f m : ℕ) (x : Fields c PanField.None da sp sa s f m) → Zeros s (x .are-read .middle) (choose c (fieldBytes sa) (le16Bytes (panOr sp) ++ fieldBytes sa))
+zeros-source c da sp sa s f m x =
+    zeros-side PanField.None da s f (x .are-read .middle) (choose c (fieldBytes sa) (le16Bytes (panOr sp) ++ fieldBytes sa)) (record { front = x .front; stands = x .stands; ends = x .in-front }) (x .are-read .first-read)
 
 -- with one, the source PAN that is not there is written as two bytes of 0
-zeros-behind : (w : Pan) (da sa : AddressField) (s : List ℕ) (m : ℕ) (x : Fields false (PanField.Some w) da PanField.None sa s m) → Zeros s (x .are-read .middle) (fieldBytes sa)
+zeros-behind : (w : Pan) (da sa : AddressField) (s : List ℕ) (f m : ℕ) (x : Fields false (PanField.Some w) da PanField.None sa s f m) → Zeros s (x .are-read .middle) (fieldBytes sa)
 unfolding le16Bytes
-zeros-behind w da sa s m x =
-    let y = spans-side true (record { 0 = modeOf da }) s 3 (sideOf (PanField.Some w) da) (x .are-read .middle) (omega (arith, x .is-long)) (x .are-read .first-read) in
-    let f = le16Bytes (w .0) ++ fieldBytes da in
+zeros-behind w da sa s f m x =
+    let y = spans-side true (record { 0 = modeOf da }) s f (sideOf (PanField.Some w) da) (x .are-read .middle) (omega (arith, x .is-long)) (x .are-read .first-read) in
+    let b = le16Bytes (w .0) ++ fieldBytes da in
     record {
-      front = x .front ++ f;
+      front = x .front ++ b;
       stands = x .stands ∙ simp append-assoc;
-      ends = length-append (x .front) f ∙ omega (arith, y .0, x .three, length-field da, width-is da);
+      ends = length-append (x .front) b ∙ omega (arith, y .0, x .in-front, length-field da, width-is da);
     }
 
-never-secured : (c : Bool) (dp : PanField) (da : AddressField) (sp : PanField) (sa : AddressField) (s : List ℕ) (m : ℕ) → Fields c dp da sp sa s m → length s ≡ m + (1 + auxiliaryLength (getD s m 0)) → ⊥
-never-secured true (PanField.Some w) da PanField.None sa s m x e = omega (arith, x .is-long, x .ends)
-never-secured true (PanField.Some w) da (PanField.Some v) sa s m x e = omega (arith, x .is-long, x .ends)
-never-secured true PanField.None da (PanField.Some v) sa s m x e = omega (arith, x .is-long, x .ends)
-never-secured false (PanField.Some w) da (PanField.Some v) sa s m x e = omega (arith, x .is-long, x .ends)
-never-secured false PanField.None da PanField.None sa s m x e = auxiliary-not-three (getD s m 0) (omega (arith, x .is-long, x .ends))
-never-secured true PanField.None da PanField.None sa s m x e =
-    let z = zeros-source true da PanField.None sa s m x in
+never-secured : (c : Bool) (dp : PanField) (da : AddressField) (sp : PanField) (sa : AddressField) (s : List ℕ) (f m : ℕ) → Fields c dp da sp sa s f m → length s ≡ m + (1 + auxiliaryLength (getD s m 0)) → ⊥
+never-secured true (PanField.Some w) da PanField.None sa s f m x e = omega (arith, x .is-long, x .ends)
+never-secured true (PanField.Some w) da (PanField.Some v) sa s f m x e = omega (arith, x .is-long, x .ends)
+never-secured true PanField.None da (PanField.Some v) sa s f m x e = omega (arith, x .is-long, x .ends)
+never-secured false (PanField.Some w) da (PanField.Some v) sa s f m x e = omega (arith, x .is-long, x .ends)
+never-secured false PanField.None da PanField.None sa s f m x e = auxiliary-not-three (getD s m 0) (omega (arith, x .is-long, x .ends))
+never-secured true PanField.None da PanField.None sa s f m x e =
+    let z = zeros-source true da PanField.None sa s f m x in
     zeros-end s m (zeros-side PanField.None sa s (x .are-read .middle) m [] (rw (append-nil (fieldBytes sa)) z) (x .are-read .second-read)) e
-never-secured false PanField.None da (PanField.Some v) sa s m x e =
-    let z = zeros-source false da (PanField.Some v) sa s m x in
+never-secured false PanField.None da (PanField.Some v) sa s f m x e =
+    let z = zeros-source false da (PanField.Some v) sa s f m x in
     zeros-end s m (zeros-side (PanField.Some v) sa s (x .are-read .middle) m [] (rw (append-nil (fieldBytes sa)) z) (x .are-read .second-read)) e
-never-secured false (PanField.Some w) da PanField.None sa s m x e =
-    let z = zeros-behind w da sa s m x in
+never-secured false (PanField.Some w) da PanField.None sa s f m x e =
+    let z = zeros-behind w da sa s f m x in
     zeros-end s m (zeros-side PanField.None sa s (x .are-read .middle) m [] (rw (append-nil (fieldBytes sa)) z) (x .are-read .second-read)) e
 
-secured-not : (t c : Bool) (dp : PanField) (da : AddressField) (sp : PanField) (sa : AddressField) (s : List ℕ) (m : ℕ) → Fields c dp da sp sa s m → length s ≡ m + auxiliaryWidth t s m → t ≡ false
-secured-not true c dp da sp sa s m x e = absurd (never-secured c dp da sp sa s m x e)
-secured-not false c dp da sp sa s m x e = refl
+secured-not : (t c : Bool) (dp : PanField) (da : AddressField) (sp : PanField) (sa : AddressField) (s : List ℕ) (f m : ℕ) → Fields c dp da sp sa s f m → length s ≡ m + auxiliaryWidth t s m → t ≡ false
+secured-not true c dp da sp sa s f m x e = absurd (never-secured c dp da sp sa s f m x e)
+secured-not false c dp da sp sa s f m x e = refl
 
 -- ---- the PANs stand where they are looked for
-counted : (c d s : Bool) (a b : ℕ) → choose c 5 7 + (a + b) ≡ 3 + ((panWidth d + a) + (panWidth s + b)) → bitOf d + bitOf s ≡ choose c 1 2
-counted true true true a b e = absurd (omega arith)
-counted true true false a b e = refl
-counted true false true a b e = refl
-counted true false false a b e = absurd (omega arith)
-counted false true true a b e = refl
-counted false true false a b e = absurd (omega arith)
-counted false false true a b e = absurd (omega arith)
-counted false false false a b e = absurd (omega arith)
+counted : (c d s : Bool) (f a b : ℕ) → f + (choose c 2 4 + (a + b)) ≡ f + ((panWidth d + a) + (panWidth s + b)) → bitOf d + bitOf s ≡ choose c 1 2
+counted true true true f a b e = absurd (omega arith)
+counted true true false f a b e = refl
+counted true false true f a b e = refl
+counted true false false f a b e = absurd (omega arith)
+counted false true true f a b e = refl
+counted false true false f a b e = absurd (omega arith)
+counted false false true f a b e = absurd (omega arith)
+counted false false false f a b e = absurd (omega arith)
 
-source-zero : (c : Bool) (dp : PanField) (da : AddressField) (sp : PanField) (sa : AddressField) (s : List ℕ) (m : ℕ) → Fields c dp da sp sa s m → hasPan dp ≡ false → panOr sp ≡ 0
-source-zero c (PanField.Some w) da sp sa s m x h = absurd (omega (arith, ap bitOf h))
-source-zero c PanField.None da sp sa s m x h =
+source-zero : (c : Bool) (dp : PanField) (da : AddressField) (sp : PanField) (sa : AddressField) (s : List ℕ) (f m : ℕ) → Fields c dp da sp sa s f m → hasPan dp ≡ false → panOr sp ≡ 0
+source-zero c (PanField.Some w) da sp sa s f m x h = absurd (omega (arith, ap bitOf h))
+source-zero c PanField.None da sp sa s f m x h =
     let y = side-in (hasPan sp) (record { 0 = modeOf sa }) s (x .are-read .middle) (sideOf sp sa) m (x .are-read .second-read) in
-    zeros-pan s (x .are-read .middle) (y .middle) sp (choose c (fieldBytes sa) (le16Bytes (panOr sp) ++ fieldBytes sa)) (zeros-source c da sp sa s m x) (y .first-read) .0
+    zeros-pan s (x .are-read .middle) (y .middle) sp (choose c (fieldBytes sa) (le16Bytes (panOr sp) ++ fieldBytes sa)) (zeros-source c da sp sa s f m x) (y .first-read) .0
 
 -- ---- the header as a whole
 in-bytes : (h : Repr) → controlIn (bytesOf h) ≡ masked (controlFor h)
@@ -285,50 +285,83 @@ in-bytes h =
 within-bits : (s : List ℕ) (h : Repr) (n : ℕ) → HeaderIn (controlIn s) s h n → (h .«frame_type» .0 < 8) × (h .«frame_version» .0 < 4)
 unfolding reprOf
 within-bits s h n x =
-    let t = ap (λ r. r .«frame_type» .0) (x .is-header) in
-    let v = ap (λ r. r .«frame_version» .0) (x .is-header) in
+    let t = ap (λ r. r .«frame_type» .0) (x .rest .is-header) in
+    let v = ap (λ r. r .«frame_version» .0) (x .rest .is-header) in
     (omega arith, omega arith)
 
-fields-are : (k : Control) (s : List ℕ) (h : Repr) (n : ℕ) (x : HeaderIn k s h n) → x .fields ≡ fieldsOf h
-unfolding reprOf
-fields-are k s h n x = sym (ap fieldsOf (x .is-header))
+-- where the addressing fields begin in what is written for a header, and what was read from there
+abbrev afterFront : Repr → ℕ
+afterFront h = 2 + choose (suppresses h) 0 1
 
-sequence-has : (k : Control) (s : List ℕ) (h : Repr) (n : ℕ) → HeaderIn k s h n → hasSequence k ≡ true → hasByte (h .«sequence_number») ≡ true
+abbrev Rested : Repr → ℕ → Type 0
+Rested h q = RestIn (controlFor h) (choose (suppresses h) ByteField.None (sequenceOf (controlFor h) q)) (afterFront h) (bytesOf h) h (lengthOf h)
+
+fields-are : (h : Repr) (q : ℕ) (x : Rested h q) → x .fields ≡ fieldsOf h
+unfolding reprOf
+fields-are h q x = sym (ap fieldsOf (x .is-header))
+
+-- a sequence number was read unless it was left out
+sequence-has : (h : Repr) (q : ℕ) → Rested h q → hasSequence (controlFor h) ≡ true → choose (suppresses h) true (hasByte (h .«sequence_number»)) ≡ true
 unfolding reprOf sequenceOf
-sequence-has k s h n x e =
-    let f : h .«sequence_number» ≡ ByteField.Some (x .sequence) = ap (λ r. r .«sequence_number») (x .is-header) ∙ rw e in
-    ap hasByte f
+sequence-has h q x e = go (suppresses h) (h .«sequence_number») (ap (λ r. r .«sequence_number») (x .is-header) ∙ rw e)
+  where
+    go : (t : Bool) (f : ByteField) → f ≡ choose t ByteField.None (ByteField.Some q) → choose t true (hasByte f) ≡ true
+    go true f e = refl
+    go false f e = ap hasByte e
+
+length-is : (h : Repr) → lengthOf h ≡ afterFront h + (choose (h .«pan_id_compression») 2 4 + (fieldLength (h .«dst_addr») + fieldLength (h .«src_addr»)))
+unfolding lengthOf
+length-is h = go (suppresses h) (h .«pan_id_compression») (fieldLength (h .«dst_addr») + fieldLength (h .«src_addr»))
+  where
+    go : (t c : Bool) (n : ℕ) → choose t 4 5 + choose c 0 2 + n ≡ 2 + choose t 0 1 + (choose c 2 4 + n)
+    go true true n = omega arith
+    go true false n = omega arith
+    go false true n = omega arith
+    go false false n = omega arith
 
 -- the frame type has addressing: without, two bytes of 0 follow the sequence number at least, and they are no auxiliary security header
-unaddressed-go : (c t : Bool) (a b : ℕ) (s : List ℕ) → a ≡ 0 → b ≡ 0 → getD s 3 0 ≡ 0 → choose c 5 7 + (a + b) ≡ 3 + auxiliaryWidth t s 3 → ⊥
+unaddressed-go : (c t : Bool) (a b f : ℕ) (s : List ℕ) → a ≡ 0 → b ≡ 0 → getD s f 0 ≡ 0 → f + (choose c 2 4 + (a + b)) ≡ f + auxiliaryWidth t s f → ⊥
 unfolding counterLength keyLength
-unaddressed-go true true a b s p q r e = let z : auxiliaryLength (getD s 3 0) ≡ 4 = rw r in omega arith
-unaddressed-go false true a b s p q r e = let z : auxiliaryLength (getD s 3 0) ≡ 4 = rw r in omega arith
-unaddressed-go true false a b s p q r e = omega arith
-unaddressed-go false false a b s p q r e = omega arith
+unaddressed-go true true a b f s p q r e = let z : auxiliaryLength (getD s f 0) ≡ 4 = rw r in omega arith
+unaddressed-go false true a b f s p q r e = let z : auxiliaryLength (getD s f 0) ≡ 4 = rw r in omega arith
+unaddressed-go true false a b f s p q r e = omega arith
+unaddressed-go false false a b f s p q r e = omega arith
 
-unaddressed : (h : Repr) (m : ℕ) → got (sidesOf noSide noSide) 3 ≡ got (fieldsOf h) m → lengthOf h ≡ m + auxiliaryWidth (h .«security_enabled») (bytesOf h) m → ⊥
-unfolding lengthOf bytesOf frontBytes byteBytes le16Bytes
+pan-byte-go : (t : Bool) (w q p : ℕ) (r : List ℕ) → getD ((le16Bytes w ++ choose t (le16Bytes p) (byteBytes q ++ le16Bytes p)) ++ r) (2 + choose t 0 1) 0 ≡ p % 256
+unfolding byteBytes le16Bytes
+pan-byte-go true w q p r = refl
+pan-byte-go false w q p r = refl
+
+pan-byte : (h : Repr) → getD (bytesOf h) (afterFront h) 0 ≡ panOr (h .«dst_pan_id») % 256
+unfolding bytesOf frontBytes
+pan-byte h = pan-byte-go (suppresses h) (wordOf (controlFor h)) (sequenceOr (h .«sequence_number»)) (panOr (h .«dst_pan_id»)) _
+
+unaddressed : (h : Repr) (m : ℕ) → got (sidesOf noSide noSide) (afterFront h) ≡ got (fieldsOf h) m → lengthOf h ≡ m + auxiliaryWidth (h .«security_enabled») (bytesOf h) m → ⊥
 unaddressed h m e l =
-    let g = got-one (sidesOf noSide noSide) (fieldsOf h) 3 m e in
+    let g = got-one (sidesOf noSide noSide) (fieldsOf h) (afterFront h) m e in
     let d : fieldLength (h .«dst_addr») ≡ 0 = sym (ap (λ x. fieldLength (x .dst .addr)) (g .0)) in
     let s : fieldLength (h .«src_addr») ≡ 0 = sym (ap (λ x. fieldLength (x .src .addr)) (g .0)) in
     let z : panOr (h .«dst_pan_id») ≡ 0 = sym (ap (λ x. panOr (x .dst .pan)) (g .0)) in
-    unaddressed-go (h .«pan_id_compression») (h .«security_enabled») (fieldLength (h .«dst_addr»)) (fieldLength (h .«src_addr»)) (bytesOf h) d s (ap (λ n. n % 256) z) (rw (← g .1) at l)
+    unaddressed-go (h .«pan_id_compression») (h .«security_enabled») (fieldLength (h .«dst_addr»)) (fieldLength (h .«src_addr»)) (afterFront h) (bytesOf h) d s (pan-byte h ∙ ap (λ n. n % 256) z) (sym (length-is h) ∙ rw (← g .1) at l)
+
+front-go : (t : Bool) (w : ℕ) (q : ByteField) → length (le16Bytes w ++ sequenceBytes t q) ≡ 2 + choose t 0 1
+unfolding byteBytes le16Bytes
+front-go true w q = refl
+front-go false w q = refl
 
 -- the fields of a frame type with addressing
-fields-in : (h : Repr) (m : ℕ) → TwoIn (side (hasPan (h .«dst_pan_id»)) (record { 0 = modeOf (h .«dst_addr») })) (side (hasPan (h .«src_pan_id»)) (record { 0 = modeOf (h .«src_addr») })) (bytesOf h) 3 (fieldsOf h .dst) (fieldsOf h .src) m → Fields (h .«pan_id_compression») (h .«dst_pan_id») (h .«dst_addr») (h .«src_pan_id») (h .«src_addr») (bytesOf h) m
-unfolding lengthOf byteBytes le16Bytes
+fields-in : (h : Repr) (m : ℕ) → TwoIn (side (hasPan (h .«dst_pan_id»)) (record { 0 = modeOf (h .«dst_addr») })) (side (hasPan (h .«src_pan_id»)) (record { 0 = modeOf (h .«src_addr») })) (bytesOf h) (afterFront h) (fieldsOf h .dst) (fieldsOf h .src) m → Fields (h .«pan_id_compression») (h .«dst_pan_id») (h .«dst_addr») (h .«src_pan_id») (h .«src_addr») (bytesOf h) (afterFront h) m
 fields-in h m x =
     let s = bytesOf h in
-    let w = wordOf (controlFor h) in
-    let l = length-bytes h in
-    let y = spans-side (hasPan (h .«dst_pan_id»)) (record { 0 = modeOf (h .«dst_addr») }) s 3 (fieldsOf h .dst) (x .middle) (omega (arith, length-least h)) (x .first-read) in
+    let w = le16Bytes (wordOf (controlFor h)) in
+    let q = sequenceBytes (suppresses h) (h .«sequence_number») in
+    let l = length-bytes h ∙ length-is h in
+    let y = spans-side (hasPan (h .«dst_pan_id»)) (record { 0 = modeOf (h .«dst_addr») }) s (afterFront h) (fieldsOf h .dst) (x .middle) (omega arith) (x .first-read) in
     let z = spans-side (hasPan (h .«src_pan_id»)) (record { 0 = modeOf (h .«src_addr») }) s (x .middle) (fieldsOf h .src) m (y .1) (x .second-read) in
     record {
-      front = w % 256 ∷ w / 256 ∷ sequenceOr (h .«sequence_number») ∷ [];
-      three = refl;
-      stands = sym (bytes-are h);
+      front = w ++ q;
+      in-front = front-go (suppresses h) (wordOf (controlFor h)) (h .«sequence_number»);
+      stands = sym (append-assoc w q _ ∙ bytes-are h);
       is-long = l;
       ends = omega (arith, width-is (h .«dst_addr»), width-is (h .«src_addr»));
       are-read = x;
@@ -339,17 +372,17 @@ record AddressedIn (h : Repr) (m : ℕ) : Type 0 where
   are-carried : carried (controlFor h) ≡ pans (hasPan (h .«dst_pan_id»)) (hasPan (h .«src_pan_id»))
   dst : hasAddress (h .«dst_addr») ≡ true
   src : hasAddress (h .«src_addr») ≡ true
-  are-fields : Fields (h .«pan_id_compression») (h .«dst_pan_id») (h .«dst_addr») (h .«src_pan_id») (h .«src_addr») (bytesOf h) m
+  are-fields : Fields (h .«pan_id_compression») (h .«dst_pan_id») (h .«dst_addr») (h .«src_pan_id») (h .«src_addr») (bytesOf h) (afterFront h) m
 
-addressed-in : (h : Repr) (m : ℕ) → sides (carried (controlFor h)) (record { 0 = modeOf (h .«dst_addr») }) (record { 0 = modeOf (h .«src_addr») }) (bytesOf h) 3 ≡ got (fieldsOf h) m → AddressedIn h m
+addressed-in : (h : Repr) (m : ℕ) → sides (carried (controlFor h)) (record { 0 = modeOf (h .«dst_addr») }) (record { 0 = modeOf (h .«src_addr») }) (bytesOf h) (afterFront h) ≡ got (fieldsOf h) m → AddressedIn h m
 addressed-in h m e =
     let p = carried (controlFor h) in
     let d : AddressingMode = record { 0 = modeOf (h .«dst_addr») } in
     let r : AddressingMode = record { 0 = modeOf (h .«src_addr») } in
-    let x = sides-in p d r (bytesOf h) 3 (fieldsOf h) m e in
-    let y = side-in (p .dst) d (bytesOf h) 3 (fieldsOf h .dst) (x .middle) (x .first-read) in
+    let x = sides-in p d r (bytesOf h) (afterFront h) (fieldsOf h) m e in
+    let y = side-in (p .dst) d (bytesOf h) (afterFront h) (fieldsOf h .dst) (x .middle) (x .first-read) in
     let z = side-in (p .src) r (bytesOf h) (x .middle) (fieldsOf h .src) m (x .second-read) in
-    let u = pan-has (p .dst) (bytesOf h) 3 (h .«dst_pan_id») (y .middle) (y .first-read) in
+    let u = pan-has (p .dst) (bytesOf h) (afterFront h) (h .«dst_pan_id») (y .middle) (y .first-read) in
     let v = pan-has (p .src) (bytesOf h) (x .middle) (h .«src_pan_id») (z .middle) (z .first-read) in
     record {
       are-carried = pans-eta p (hasPan (h .«dst_pan_id»)) (hasPan (h .«src_pan_id»)) u v;
@@ -358,11 +391,11 @@ addressed-in h m e =
       are-fields = fields-in h m (rw (u, v) x);
     }
 
-addressing-go : (h : Repr) (m : ℕ) (t : Bool) → lengthOf h ≡ m + auxiliaryWidth (h .«security_enabled») (bytesOf h) m → choose t (sides (carried (controlFor h)) (record { 0 = modeOf (h .«dst_addr») }) (record { 0 = modeOf (h .«src_addr») }) (bytesOf h) 3) (got (sidesOf noSide noSide) 3) ≡ got (fieldsOf h) m → (t ≡ true) × AddressedIn h m
+addressing-go : (h : Repr) (m : ℕ) (t : Bool) → lengthOf h ≡ m + auxiliaryWidth (h .«security_enabled») (bytesOf h) m → choose t (sides (carried (controlFor h)) (record { 0 = modeOf (h .«dst_addr») }) (record { 0 = modeOf (h .«src_addr») }) (bytesOf h) (afterFront h)) (got (sidesOf noSide noSide) (afterFront h)) ≡ got (fieldsOf h) m → (t ≡ true) × AddressedIn h m
 addressing-go h m true l e = (refl, addressed-in h m e)
 addressing-go h m false l e = absurd (unaddressed h m e l)
 
-addressing-in : (h : Repr) (m : ℕ) → lengthOf h ≡ m + auxiliaryWidth (h .«security_enabled») (bytesOf h) m → addressing (controlFor h) (bytesOf h) 3 ≡ got (fieldsOf h) m → (hasAddressing (controlFor h) ≡ true) × AddressedIn h m
+addressing-in : (h : Repr) (m : ℕ) → lengthOf h ≡ m + auxiliaryWidth (h .«security_enabled») (bytesOf h) m → addressing (controlFor h) (bytesOf h) (afterFront h) ≡ got (fieldsOf h) m → (hasAddressing (controlFor h) ≡ true) × AddressedIn h m
 unfolding addressing
 addressing-in h m l e = addressing-go h m (hasAddressing (controlFor h)) l e
 
@@ -371,8 +404,8 @@ pans-in h m l x =
     let f = x .are-fields in
     record {
       are-carried = x .are-carried;
-      are-counted = counted (h .«pan_id_compression») (hasPan (h .«dst_pan_id»)) (hasPan (h .«src_pan_id»)) (fieldLength (h .«dst_addr»)) (fieldLength (h .«src_addr»)) (omega (arith, f .is-long, f .ends, length-bytes h));
-      source-zero = source-zero (h .«pan_id_compression») (h .«dst_pan_id») (h .«dst_addr») (h .«src_pan_id») (h .«src_addr») (bytesOf h) m f;
+      are-counted = counted (h .«pan_id_compression») (hasPan (h .«dst_pan_id»)) (hasPan (h .«src_pan_id»)) (afterFront h) (fieldLength (h .«dst_addr»)) (fieldLength (h .«src_addr»)) (sym (length-is h) ∙ l ∙ f .ends);
+      source-zero = source-zero (h .«pan_id_compression») (h .«dst_pan_id») (h .«dst_addr») (h .«src_pan_id») (h .«src_addr») (bytesOf h) (afterFront h) m f;
     }
 
 domain-in : (h : Repr) → header (bytesOf h) 0 ≡ got h (lengthOf h) → Domain h
@@ -381,18 +414,20 @@ domain-in h e =
     let y = header-in s h (lengthOf h) e in
     let b = within-bits s h (lengthOf h) y in
     let k = controlFor h in
-    let x : HeaderIn k s h (lengthOf h) = subst (λ j. HeaderIn j s h (lengthOf h)) (in-bytes h ∙ masked-same h (b .0) (b .1)) y in
-    let m = 3 + addressingWidth k in
+    let z : HeaderIn k s h (lengthOf h) = subst (λ j. HeaderIn j s h (lengthOf h)) (in-bytes h ∙ masked-same h (b .0) (b .1)) y in
+    let q = z .sequence in
+    let x : Rested h q = subst (λ t. RestIn k (choose t ByteField.None (sequenceOf k q)) (2 + choose t 0 1) s h (lengthOf h)) (omits-is h) (z .rest) in
+    let m = afterFront h + addressingWidth k in
     let l = auxiliary-length (h .«security_enabled») s m (lengthOf h) (x .fields-within) (x .auxiliary-read) in
-    let a = addressing-in h m (l .0) (x .fields-read ∙ ap (λ i. got i m) (fields-are k s h (lengthOf h) x)) in
+    let a = addressing-in h m (l .0) (x .fields-read ∙ ap (λ i. got i m) (fields-are h q x)) in
     let c = h .«pan_id_compression» in
-    let n = secured-not (h .«security_enabled») c (h .«dst_pan_id») (h .«dst_addr») (h .«src_pan_id») (h .«src_addr») s m (a .1 .are-fields) (length-bytes h ∙ l .0) in
+    let n = secured-not (h .«security_enabled») c (h .«dst_pan_id») (h .«dst_addr») (h .«src_pan_id») (h .«src_addr») s (afterFront h) m (a .1 .are-fields) (length-bytes h ∙ l .0) in
     record {
       unsecured = n;
       version = b .1;
       is-supported = x .is-supported;
       is-addressed = a .0;
-      sequence = sequence-has k s h (lengthOf h) x (addressed-sequence k (a .0));
+      sequence = sequence-has h q x (addressed-sequence k (a .0));
       dst = a .1 .dst;
       src = a .1 .src;
       pans-stand = pans-in h m (l .0 ∙ ap (λ t. m + auxiliaryWidth t s m) n ∙ add-zero m) (a .1);

@@ -8,11 +8,12 @@ use lib.ListN.{length, getD}
 use lib.Dec.{eqb, ltb}
 use borrow.Author.Tests.{ltb-false}
 use Rattle.octets.specs.Read.{is, refused, Placed, Read, Reader, got, andThen, choose, branch, _>>=_, give, refuse, byte, le16, le64, skip}
+use Rattle.octets.specs.declared.field.ByteField.{ByteField}
 use Rattle.octets.proofs.Spans.{Spans, not-refused, spans-give, spans-refuse, spans-then, spans-branch, spans-byte, spans-skip, spans-le16, spans-le64}
-use Rattle.ieee802154.specs.Control.{controlOf, supported, hasAddressing, carried}
+use Rattle.ieee802154.specs.Control.{controlOf, supported, omitsSequence, hasAddressing, carried}
 use Rattle.ieee802154.specs.Addressing.{panField, addressField, side, sides, addressing}
 use Rattle.ieee802154.specs.Security.{auxiliaryLength, auxiliary}
-use Rattle.ieee802154.specs.Mac.{reprOf, headerRest, header, mac}
+use Rattle.ieee802154.specs.Mac.{sequenceOf, reprOf, headerRest, afterControl, header, mac}
 use Rattle.ieee802154.specs.declared.addr.Address.the-variants.{Short, Extended}
 use Rattle.ieee802154.specs.declared.addr.PanField.{PanField}
 use Rattle.ieee802154.specs.declared.addr.AddressField.{AddressField}
@@ -39,6 +40,14 @@ addressingWidth k = choose (hasAddressing k) (sidesWidth (carried k) (k .«dst_a
 abbrev pub auxiliaryWidth : Bool → List ℕ → ℕ → ℕ
 auxiliaryWidth t s at = choose t (1 + auxiliaryLength (getD s at 0)) 0
 
+-- where the addressing fields begin: behind the frame control field, and the sequence number unless it is left out
+abbrev pub fieldsAt : Control → ℕ
+fieldsAt k = 2 + choose (omitsSequence k) 0 1
+
+-- the byte as a field, unless it is left out
+abbrev pub sequenceIn : Control → ℕ → ByteField
+sequenceIn k q = choose (omitsSequence k) ByteField.None (sequenceOf k q)
+
 -- frame control, sequence number, addressing fields, auxiliary security header
 abbrev pub controlIn : List ℕ → Control
 controlIn s = controlOf (getD s 0 0 + getD s 1 0 * 256)
@@ -46,7 +55,7 @@ controlIn s = controlOf (getD s 0 0 + getD s 1 0 * 256)
 abbrev pub headerLength : List ℕ → ℕ
 headerLength s =
     let k = controlIn s in
-    let at = 3 + addressingWidth k in
+    let at = fieldsAt k + addressingWidth k in
     at + auxiliaryWidth (k .«security_enabled») s at
 
 -- ---- how far each reader goes
@@ -127,24 +136,27 @@ le16-at s w n e =
     let g : getD s (x .after) 0 ≡ getD s 1 0 = ap (λ i. getD s i 0) (p .1) in
     omega arith
 
+-- what was read from a place on, after a frame control field k and a sequence number q
+pub record RestIn (k : Control) (q : ByteField) (at : ℕ) (s : List ℕ) (h : Repr) (n : ℕ) : Type 0 where
+  pub fields : Addressing
+  pub is-supported : supported k ≡ true
+  pub fields-read : addressing k s at ≡ got fields (at + addressingWidth k)
+  pub fields-within : at + addressingWidth k ≤ length s
+  pub auxiliary-read : auxiliary (k .«security_enabled») s (at + addressingWidth k) ≡ got tt n
+  pub is-header : h ≡ reprOf k q fields
+
 -- what was read after a frame control field k
 pub record HeaderIn (k : Control) (s : List ℕ) (h : Repr) (n : ℕ) : Type 0 where
   pub sequence : ℕ
-  pub fields : Addressing
-  pub is-supported : supported k ≡ true
-  pub fields-read : addressing k s 3 ≡ got fields (3 + addressingWidth k)
-  pub fields-within : 3 + addressingWidth k ≤ length s
-  pub auxiliary-read : auxiliary (k .«security_enabled») s (3 + addressingWidth k) ≡ got tt n
-  pub is-header : h ≡ reprOf k sequence fields
+  pub rest : RestIn k (sequenceIn k sequence) (fieldsAt k) s h n
 
-rest-go : (k : Control) (q : ℕ) (s : List ℕ) (h : Repr) (n : ℕ) (t : Bool) → supported k ≡ t → 3 ≤ length s → choose t (_>>=_ (addressing k) (λ a. _>>=_ (auxiliary (k .«security_enabled»)) (λ u. give (reprOf k q a))) s 3) (refused 3) ≡ got h n → HeaderIn k s h n
-rest-go k q s h n true t l e =
-    let x = split (addressing k) (λ a. _>>=_ (auxiliary (k .«security_enabled»)) (λ u. give (reprOf k q a))) s 3 h n e in
+rest-go : (k : Control) (q : ByteField) (at : ℕ) (s : List ℕ) (h : Repr) (n : ℕ) (t : Bool) → supported k ≡ t → at ≤ length s → choose t (_>>=_ (addressing k) (λ a. _>>=_ (auxiliary (k .«security_enabled»)) (λ u. give (reprOf k q a))) s at) (refused 3) ≡ got h n → RestIn k q at s h n
+rest-go k q at s h n true t l e =
+    let x = split (addressing k) (λ a. _>>=_ (auxiliary (k .«security_enabled»)) (λ u. give (reprOf k q a))) s at h n e in
     let y = split (auxiliary (k .«security_enabled»)) (λ u. give (reprOf k q (x .part))) s (x .after) h n (x .rest) in
-    let w = spans-addressing k s 3 (x .part) (x .after) l (x .first) in
+    let w = spans-addressing k s at (x .part) (x .after) l (x .first) in
     let z = got-one (reprOf k q (x .part)) h (y .after) n (y .rest) in
     record {
-      sequence = q;
       fields = x .part;
       is-supported = t;
       fields-read = x .first ∙ ap (λ i. got (x .part) i) (w .0);
@@ -152,22 +164,31 @@ rest-go k q s h n true t l e =
       auxiliary-read = subst (λ i. auxiliary (k .«security_enabled») s i ≡ got tt n) (w .0) (y .first ∙ ap (λ i. got tt i) (z .1));
       is-header = sym (z .0);
     }
-rest-go k q s h n false t l e = not-refused _ 3 e
+rest-go k q at s h n false t l e = not-refused _ 3 e
 
-rest-in : (k : Control) (q : ℕ) (s : List ℕ) (h : Repr) (n : ℕ) → 3 ≤ length s → headerRest k q s 3 ≡ got h n → HeaderIn k s h n
+rest-in : (k : Control) (q : ByteField) (at : ℕ) (s : List ℕ) (h : Repr) (n : ℕ) → at ≤ length s → headerRest k q s at ≡ got h n → RestIn k q at s h n
 unfolding headerRest
-rest-in k q s h n l e = rest-go k q s h n (supported k) refl l e
+rest-in k q at s h n l e = rest-go k q at s h n (supported k) refl l e
+
+after-go : (k : Control) (s : List ℕ) (h : Repr) (n : ℕ) (t : Bool) → omitsSequence k ≡ t → 2 ≤ length s → choose t (headerRest k ByteField.None s 2) (_>>=_ byte (λ q. headerRest k (sequenceOf k q)) s 2) ≡ got h n → HeaderIn k s h n
+after-go k s h n true t l e = record { sequence = 0; rest = rw t (rest-in k ByteField.None 2 s h n l e) }
+after-go k s h n false t l e =
+    let y = split byte (λ q. headerRest k (sequenceOf k q)) s 2 h n e in
+    let v = spans-byte s 2 (y .part) (y .after) l (y .first) in
+    let d : y .after ≡ 3 = omega arith in
+    record { sequence = y .part; rest = rw t (rest-in k (sequenceOf k (y .part)) 3 s h n (omega arith) (rw d at (y .rest))) }
+
+after-in : (k : Control) (s : List ℕ) (h : Repr) (n : ℕ) → 2 ≤ length s → afterControl k s 2 ≡ got h n → HeaderIn k s h n
+unfolding afterControl
+after-in k s h n l e = after-go k s h n (omitsSequence k) refl l e
 
 pub header-in : (s : List ℕ) (h : Repr) (n : ℕ) → header s 0 ≡ got h n → HeaderIn (controlIn s) s h n
 unfolding header
 header-in s h n e =
-    let x = split le16 (λ fc. _>>=_ byte (λ q. headerRest (controlOf fc) q)) s 0 h n e in
-    let y = split byte (λ q. headerRest (controlOf (x .part)) q) s (x .after) h n (x .rest) in
+    let x = split le16 (λ fc. afterControl (controlOf fc)) s 0 h n e in
     let p = le16-at s (x .part) (x .after) (x .first) in
     let l = spans-le16 s 0 (x .part) (x .after) (omega arith) (x .first) in
-    let v = spans-byte s (x .after) (y .part) (y .after) (l .1) (y .first) in
-    let d : y .after ≡ 3 = omega arith in
-    subst (λ w. HeaderIn (controlOf w) s h n) (p .0) (rest-in (controlOf (x .part)) (y .part) s h n (omega arith) (rw d at (y .rest)))
+    subst (λ w. HeaderIn (controlOf w) s h n) (p .0) (after-in (controlOf (x .part)) s h n (omega arith) (rw (p .1) at (x .rest)))
 
 -- ---- the length
 pub auxiliary-length : (t : Bool) (s : List ℕ) (at n : ℕ) → at ≤ length s → auxiliary t s at ≡ got tt n → (n ≡ at + auxiliaryWidth t s at) × (n ≤ length s)
@@ -185,7 +206,7 @@ auxiliary-length false s at n h e = spans-give tt s at tt n h e
 pub header-length : (s : List ℕ) (h : Repr) (n : ℕ) → header s 0 ≡ got h n → (n ≡ headerLength s) × (n ≤ length s)
 header-length s h n e =
     let x = header-in s h n e in
-    auxiliary-length (controlIn s .«security_enabled») s (3 + addressingWidth (controlIn s)) n (x .fields-within) (x .auxiliary-read)
+    auxiliary-length (controlIn s .«security_enabled») s (fieldsAt (controlIn s) + addressingWidth (controlIn s)) n (x .rest .fields-within) (x .rest .auxiliary-read)
 
 mac-go : (s : List ℕ) (h : Repr) (n : ℕ) (t u : Bool) → choose t (refused 1) (choose u (refused 4) (header s 0)) ≡ got h n → header s 0 ≡ got h n
 mac-go s h n true u e = not-refused _ 1 e

@@ -1,6 +1,7 @@
 -- The steps of the header's reader, for `search`: what an answer that a match took apart says of the specification's next step.
-use Prim.Native.Nat.{ℕ}
+use Prim.Native.Nat.{ℕ, _≤_}
 use mathlib.Core.List.{List}
+use lib.ListN.{length, getD, List·getD-eq-default}
 use mathlib.Core.Option.{Option}
 use mathlib.Core.Path.{_≡_, refl, sym, ap, _∙_}
 use Rattle.octets.specs.Read.{Answer, refused, Placed, Read, andThen, skip}
@@ -12,7 +13,8 @@ use Rattle.octets.specs.declared.ipv6.Ipv6Addr.{Ipv6Addr}
 use Rattle.ieee802154.specs.Address.{ofEui, underLinkLocal}
 use Rattle.ieee802154.specs.declared.addr.Eui64.{Eui64}
 use Rattle.ieee802154.specs.Addressing.{ofPan, ofField, ofSide, ofAddressing, sides}
-use Rattle.ieee802154.specs.Mac.{headerRest}
+use Rattle.octets.specs.declared.field.ByteField.{ByteField}
+use Rattle.ieee802154.specs.Mac.{headerRest, afterControl}
 use Rattle.ieee802154.specs.declared.addr.PanField.{PanField}
 use Rattle.ieee802154.specs.declared.addr.AddressField.{AddressField}
 use Rattle.ieee802154.specs.declared.control.AddressingMode.{AddressingMode}
@@ -61,7 +63,14 @@ skip-told n m s at r p e = e ∙ ap (λ z. skip z s at) p
 pub sides-told : (p q : Carried) (d s : AddressingMode) (l : List ℕ) (at : ℕ) (r : Read Addressing) → p ≡ q → r ≡ sides p d s l at → r ≡ sides q d s l at
 sides-told p q d s l at r h e = e ∙ ap (λ z. sides z d s l at) h
 
-pub rest-told : (k j : Control) (q : ℕ) (l : List ℕ) (at : ℕ) (r : Read Repr) → k ≡ j → r ≡ headerRest k q l at → r ≡ headerRest j q l at
-rest-told k j q l at r h e = e ∙ ap (λ z. headerRest z q l at) h
+pub after-told : (k j : Control) (l : List ℕ) (at : ℕ) (r : Read Repr) → k ≡ j → r ≡ afterControl k l at → r ≡ afterControl j l at
+after-told k j l at r h e = e ∙ ap (λ z. afterControl z l at) h
 
-pub ruleset read-steps = (on-pan, no-pan, on-address, no-address, on-side, no-side, on-addressing, no-addressing, skip-told, sides-told, rest-told)
+pub rest-told : (k : Control) (p q : ByteField) (l : List ℕ) (at : ℕ) (r : Read Repr) → p ≡ q → r ≡ headerRest k p l at → r ≡ headerRest k q l at
+rest-told k p q l at r h e = e ∙ ap (λ z. headerRest k z l at) h
+
+-- past the end stands 0
+pub past-end : (s : List ℕ) (at : ℕ) → length s ≤ at → 0 ≡ getD s at 0
+past-end s at h = sym (List·getD-eq-default s 0 h)
+
+pub ruleset read-steps = (on-pan, no-pan, on-address, no-address, on-side, no-side, on-addressing, no-addressing, skip-told, sides-told, after-told, rest-told)

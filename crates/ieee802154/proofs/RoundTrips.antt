@@ -6,7 +6,7 @@ use native.Mathlib.Omega.{arith}
 use mathlib.Core.List.{List, [], _++_, append-assoc}
 use mathlib.Core.Bool.{Bool, true, false, not, _&&_}
 use mathlib.Core.Path.{_≡_, refl, sym, ap, subst, _∙_}
-use lib.ListN.{length, drop, length-append, length-drop}
+use lib.ListN.{length, getD, drop, length-append, length-drop}
 use lib.Dec.{eqb, ltb}
 use borrow.Author.Tests.{ltb-true, lt-ltb, le-ltb, eqb-true, eq-eqb, ne-eqb, not-true, le-leb}
 use Rattle.octets.specs.Read.{is, refused, Reader, got, choose, branch, give, refuse, _>>=_, byte, le16, le64}
@@ -16,11 +16,11 @@ use Rattle.octets.proofs.Steps.{and-true}
 use Rattle.octets.proofs.RoundTrip.{Reads, reads-then, reads-map, reads-give, reads-byte, reads-be16, reads-be64, reads-le16, reads-le64}
 use Rattle.ieee802154.specs.Address.{isPresent, fromBytes, addressBytes}
 use Rattle.ieee802154.specs.declared.addr.Address.{Address}
-use Rattle.ieee802154.specs.Control.{bit, bitOf, controlOf, wordOf, supported, hasSequence, hasAddressing, pans, carried01, carried2, carried}
+use Rattle.ieee802154.specs.Control.{bit, bitOf, controlOf, wordOf, supported, hasSequence, saysElements, hasElements, mayOmit, omitsSequence, hasAddressing, pans, carried01, carried2, carried}
 use Rattle.ieee802154.specs.Addressing.{panField, addressField, side, sides, addressing, panOr, modeOf, fieldLength, fieldBytes}
 use Rattle.ieee802154.specs.Security.{auxiliary}
-use Rattle.ieee802154.specs.Mac.{sequenceOf, reprOf, headerRest, header, mac, sequenceOr, controlFor, lengthOf, frontBytes, sourceBytes, backBytes, bytesOf}
-use Rattle.ieee802154.specs.RoundTrips.{hasByte, hasPan, hasAddress, same, pansStand, roundTrips}
+use Rattle.ieee802154.specs.Mac.{sequenceOf, reprOf, headerRest, afterControl, header, mac, sequenceOr, hasByte, suppresses, controlFor, lengthOf, frontBytes, sourceBytes, backBytes, bytesOf}
+use Rattle.ieee802154.specs.RoundTrips.{hasPan, hasAddress, same, pansStand, roundTrips}
 use Rattle.ieee802154.specs.declared.addr.Address.the-variants.{Absent, Short, Extended}
 use Rattle.ieee802154.specs.declared.addr.PanField.{PanField}
 use Rattle.ieee802154.specs.declared.addr.AddressField.{AddressField}
@@ -54,8 +54,8 @@ bit-small false = omega arith
 
 -- ---- the frame control field: what is read is what was written, each part within its bits
 module _ (k : Control) where
-  bits : (bitOf (k .«security_enabled») ≤ 1) × (bitOf (k .«frame_pending») ≤ 1) × (bitOf (k .«ack_request») ≤ 1) × (bitOf (k .«pan_id_compression») ≤ 1)
-  bits = (bit-small (k .«security_enabled»), bit-small (k .«frame_pending»), bit-small (k .«ack_request»), bit-small (k .«pan_id_compression»))
+  bits : (bitOf (k .«security_enabled») ≤ 1) × (bitOf (k .«frame_pending») ≤ 1) × (bitOf (k .«ack_request») ≤ 1) × (bitOf (k .«pan_id_compression») ≤ 1) × (bitOf (k .«sequence_suppressed») ≤ 1)
+  bits = (bit-small (k .«security_enabled»), bit-small (k .«frame_pending»), bit-small (k .«ack_request»), bit-small (k .«pan_id_compression»), bit-small (k .«sequence_suppressed»))
 
   word-type : wordOf k % 8 ≡ k .«frame_type» .0 % 8
   unfolding wordOf
@@ -77,6 +77,14 @@ module _ (k : Control) where
   unfolding wordOf
   word-compression = bit-back (k .«pan_id_compression») (wordOf k / 64 % 2) (omega (arith, bits))
 
+  word-suppressed : bit (wordOf k / 256) ≡ k .«sequence_suppressed»
+  unfolding wordOf
+  word-suppressed = bit-back (k .«sequence_suppressed») (wordOf k / 256 % 2) (omega (arith, bits))
+
+  word-elements : wordOf k / 256 / 2 % 2 ≡ 0
+  unfolding wordOf
+  word-elements = omega (arith, bits)
+
   word-dst : wordOf k / 1024 % 4 ≡ k .«dst_addr_mode» .0 % 4
   unfolding wordOf
   word-dst = omega (arith, bits)
@@ -97,13 +105,14 @@ masked k =
       «frame_pending» = k .«frame_pending»;
       «ack_request» = k .«ack_request»;
       «pan_id_compression» = k .«pan_id_compression»;
+      «sequence_suppressed» = k .«sequence_suppressed»;
       «dst_addr_mode» = record { 0 = k .«dst_addr_mode» .0 % 4 };
       «frame_version» = record { 0 = k .«frame_version» .0 % 4 };
       «src_addr_mode» = record { 0 = k .«src_addr_mode» .0 % 4 };
     }
 
 pub control-back : (k : Control) → controlOf (wordOf k) ≡ masked k
-control-back k = cc (word-type k, word-security k, word-pending k, word-ack k, word-compression k, word-dst k, word-version k, word-src k)
+control-back k = cc (word-type k, word-security k, word-pending k, word-ack k, word-compression k, word-suppressed k, word-dst k, word-version k, word-src k)
 
 mode-small : (a : AddressField) → modeOf a % 4 ≡ modeOf a
 mode-small AddressField.None = refl
@@ -200,7 +209,7 @@ pub record Domain (h : Repr) : Type 0 where
   pub version : h .«frame_version» .0 < 4
   pub is-supported : supported (controlFor h) ≡ true
   pub is-addressed : hasAddressing (controlFor h) ≡ true
-  pub sequence : hasByte (h .«sequence_number») ≡ true
+  pub sequence : choose (suppresses h) true (hasByte (h .«sequence_number»)) ≡ true
   pub dst : hasAddress (h .«dst_addr») ≡ true
   pub src : hasAddress (h .«src_addr») ≡ true
   pub pans-stand : PansStand (h .«pan_id_compression») (carried (controlFor h)) (h .«dst_pan_id») (h .«src_pan_id»)
@@ -256,13 +265,13 @@ pub addressed-sequence : (k : Control) → hasAddressing k ≡ true → hasSeque
 unfolding hasAddressing hasSequence
 addressed-sequence k e = let t = k .«frame_type» .0 in addressed-go t (eqb t 2) (eqb t 4) (eqb (k .«frame_version» .0) 2) e (λ z. eqb-true t 2 z) (λ z. ne-eqb t 4 (λ y. omega arith))
 
-sequence-go : (t : ℕ) (b : Bool) → choose b false (ltb t 6) ≡ true → t < 8
-sequence-go t true e = absurd (omega (arith, ap bitOf e))
-sequence-go t false e = omega (arith, ltb-true t 6 e)
+type-go : (t : ℕ) (b : Bool) → choose b false (ltb t 6) ≡ true → t < 8
+type-go t true e = absurd (omega (arith, ap bitOf e))
+type-go t false e = omega (arith, ltb-true t 6 e)
 
 sequence-type : (k : Control) → hasSequence k ≡ true → k .«frame_type» .0 < 8
 unfolding hasSequence
-sequence-type k e = sequence-go (k .«frame_type» .0) (eqb (k .«frame_type» .0) 4) e
+sequence-type k e = type-go (k .«frame_type» .0) (eqb (k .«frame_type» .0) 4) e
 
 -- where one PAN at least is written, and it is not the destination's, it is the source's
 source-alone : (c d s : Bool) → bitOf d + bitOf s ≡ choose c 1 2 → d ≡ false → s ≡ true
@@ -277,9 +286,35 @@ fieldsOf h = sidesOf (sideOf (h .«dst_pan_id») (h .«dst_addr»)) (sideOf (h .
 abbrev pub afterSequence : Repr → List ℕ
 afterSequence h = writtenFields (h .«pan_id_compression») (h .«dst_pan_id») (h .«dst_addr») (h .«src_pan_id») (h .«src_addr»)
 
-pub bytes-are : (h : Repr) → le16Bytes (wordOf (controlFor h)) ++ (byteBytes (sequenceOr (h .«sequence_number»)) ++ afterSequence h) ≡ bytesOf h
+-- the sequence number's byte, unless it is left out
+abbrev pub sequenceBytes : Bool → ByteField → List ℕ
+sequenceBytes t q = choose t [] (byteBytes (sequenceOr q))
+
+bytes-go : (t : Bool) (w p r : List ℕ) (q : ByteField) → w ++ (sequenceBytes t q ++ (p ++ r)) ≡ (w ++ choose t p (byteBytes (sequenceOr q) ++ p)) ++ r
+bytes-go true w p r q = sym (append-assoc w p r)
+bytes-go false w p r q = let b = byteBytes (sequenceOr q) in ap (λ z. w ++ z) (sym (append-assoc b p r)) ∙ sym (append-assoc w (b ++ p) r)
+
+pub bytes-are : (h : Repr) → le16Bytes (wordOf (controlFor h)) ++ (sequenceBytes (suppresses h) (h .«sequence_number») ++ afterSequence h) ≡ bytesOf h
 unfolding bytesOf frontBytes backBytes sourceBytes
-bytes-are h = simp append-assoc
+bytes-are h = bytes-go (suppresses h) (le16Bytes (wordOf (controlFor h))) (le16Bytes (panOr (h .«dst_pan_id»))) _ (h .«sequence_number»)
+
+-- what is written says of itself whether the number is left out; and then there is none
+omits-go : (q m : Bool) → choose (choose q false m) m false ≡ choose q false m
+omits-go true m = refl
+omits-go false true = refl
+omits-go false false = refl
+
+pub omits-is : (h : Repr) → omitsSequence (controlFor h) ≡ suppresses h
+unfolding omitsSequence suppresses
+omits-is h = omits-go (hasByte (h .«sequence_number»)) (mayOmit (h .«frame_version» .0) (h .«frame_type» .0))
+
+none-go : (q m : Bool) → choose q false m ≡ true → q ≡ false
+none-go true m e = sym e
+none-go false m e = refl
+
+suppresses-none : (h : Repr) → suppresses h ≡ true → hasByte (h .«sequence_number») ≡ false
+unfolding suppresses
+suppresses-none h e = none-go (hasByte (h .«sequence_number»)) (mayOmit (h .«frame_version» .0) (h .«frame_type» .0)) e
 
 reads-addressing : (h : Repr) → Domain h → Reads (addressing (controlFor h)) (afterSequence h) (fieldsOf h)
 unfolding addressing
@@ -288,15 +323,20 @@ reads-addressing h d =
     let absent : hasPan (h .«dst_pan_id») ≡ false → fieldBytes (h .«dst_addr») ≡ [] = λ z. no-bytes (h .«dst_addr») (only-source (controlFor h) (rw (z, source-alone (h .«pan_id_compression») (hasPan (h .«dst_pan_id»)) (hasPan (h .«src_pan_id»)) (s .are-counted) z) at (s .are-carried))) in
     rw (d .is-addressed, s .are-carried) (reads-fields (h .«pan_id_compression») (h .«dst_pan_id») (h .«dst_addr») (h .«src_pan_id») (h .«src_addr») (d .dst) (d .src) (s .are-counted) (s .source-zero) absent)
 
-sequence-back : (k : Control) (f : ByteField) → hasSequence k ≡ true → hasByte f ≡ true → sequenceOf k (sequenceOr f) ≡ f
+sequence-go : (k : Control) (t : Bool) (f : ByteField) → hasSequence k ≡ true → choose t true (hasByte f) ≡ true → (t ≡ true → hasByte f ≡ false) → choose t ByteField.None (sequenceOf k (sequenceOr f)) ≡ f
 unfolding sequenceOf
-sequence-back k ByteField.None e h = absurd (omega (arith, ap bitOf h))
-sequence-back k (ByteField.Some x) e h = rw e
+sequence-go k true ByteField.None e h n = refl
+sequence-go k true (ByteField.Some x) e h n = absurd (omega (arith, ap bitOf (n refl)))
+sequence-go k false ByteField.None e h n = absurd (omega (arith, ap bitOf h))
+sequence-go k false (ByteField.Some x) e h n = rw e
+
+sequence-back : (h : Repr) → Domain h → choose (suppresses h) ByteField.None (sequenceOf (controlFor h) (sequenceOr (h .«sequence_number»))) ≡ h .«sequence_number»
+sequence-back h d = sequence-go (controlFor h) (suppresses h) (h .«sequence_number») (addressed-sequence (controlFor h) (d .is-addressed)) (d .sequence) (suppresses-none h)
 
 -- the fields that were read make the header
-header-back : (h : Repr) → Domain h → reprOf (controlFor h) (sequenceOr (h .«sequence_number»)) (fieldsOf h) ≡ h
+header-back : (h : Repr) → reprOf (controlFor h) (h .«sequence_number») (fieldsOf h) ≡ h
 unfolding reprOf
-header-back h d = rw (sequence-back (controlFor h) (h .«sequence_number») (addressed-sequence (controlFor h) (d .is-addressed)) (d .sequence))
+header-back h = refl
 
 rest-go : (m : Reader Addressing) (f : Addressing → Repr) (bs : List ℕ) (a : Addressing) (s t : Bool) → s ≡ true → t ≡ false → Reads m bs a → Reads (branch s (_>>=_ m (λ x. _>>=_ (auxiliary t) (λ u. give (f x)))) (refuse 3)) bs (f a)
 unfolding auxiliary
@@ -304,37 +344,63 @@ rest-go m f bs a true false e g r = reads-map m f bs a r
 rest-go m f bs a true true e g r = absurd (omega (arith, ap bitOf g))
 rest-go m f bs a false t e g r = absurd (omega (arith, ap bitOf e))
 
-reads-rest : (h : Repr) → Domain h → Reads (headerRest (controlFor h) (sequenceOr (h .«sequence_number»))) (afterSequence h) h
+reads-rest : (h : Repr) → Domain h → Reads (headerRest (controlFor h) (h .«sequence_number»)) (afterSequence h) h
 unfolding headerRest
 reads-rest h d =
     let k = controlFor h in
-    let q = sequenceOr (h .«sequence_number») in
-    subst (λ x. Reads (headerRest k q) (afterSequence h) x) (header-back h d)
+    let q = h .«sequence_number» in
+    subst (λ x. Reads (headerRest k q) (afterSequence h) x) (header-back h)
     (rest-go (addressing k) (reprOf k q) (afterSequence h) (fieldsOf h) (supported k) (h .«security_enabled») (d .is-supported) (d .unsecured) (reads-addressing h d))
+
+after-go : (h : Repr) → Domain h → (t : Bool) → choose t ByteField.None (sequenceOf (controlFor h) (sequenceOr (h .«sequence_number»))) ≡ h .«sequence_number» → Reads (branch t (headerRest (controlFor h) ByteField.None) (_>>=_ byte (λ b. headerRest (controlFor h) (sequenceOf (controlFor h) b)))) (sequenceBytes t (h .«sequence_number») ++ afterSequence h) h
+after-go h d true e = subst (λ z. Reads (headerRest (controlFor h) z) (afterSequence h) h) (sym e) (reads-rest h d)
+after-go h d false e =
+    let k = controlFor h in
+    let q = sequenceOr (h .«sequence_number») in
+    reads-then byte (λ b. headerRest k (sequenceOf k b)) (byteBytes q) (afterSequence h) q h (reads-byte q) (subst (λ z. Reads (headerRest k z) (afterSequence h) h) (sym e) (reads-rest h d))
+
+reads-after : (h : Repr) → Domain h → Reads (afterControl (controlFor h)) (sequenceBytes (suppresses h) (h .«sequence_number») ++ afterSequence h) h
+unfolding afterControl
+reads-after h d =
+    let k = controlFor h in
+    let m = headerRest k ByteField.None in
+    let f = _>>=_ byte (λ b. headerRest k (sequenceOf k b)) in
+    subst (λ t. Reads (branch t m f) (sequenceBytes (suppresses h) (h .«sequence_number») ++ afterSequence h) h) (sym (omits-is h)) (after-go h d (suppresses h) (sequence-back h d))
 
 pub suffices : (h : Repr) → roundTrips h ≡ true → Reads header (bytesOf h) h
 unfolding header
 suffices h e =
     let d = domain h e in
     let k = controlFor h in
-    let q = sequenceOr (h .«sequence_number») in
     let same-control : controlOf (wordOf k) ≡ k = control-back k ∙ masked-same h (sequence-type k (addressed-sequence k (d .is-addressed))) (d .version) in
     subst (λ bs. Reads header bs h) (bytes-are h)
-    (reads-then le16 (λ fc. _>>=_ byte (λ s. headerRest (controlOf fc) s)) (le16Bytes (wordOf k)) (byteBytes q ++ afterSequence h) (wordOf k) h (reads-le16 (wordOf k))
-    (reads-then byte (λ s. headerRest (controlOf (wordOf k)) s) (byteBytes q) (afterSequence h) q h (reads-byte q) (rw same-control (reads-rest h d))))
+    (reads-then le16 (λ fc. afterControl (controlOf fc)) (le16Bytes (wordOf k)) (sequenceBytes (suppresses h) (h .«sequence_number») ++ afterSequence h) (wordOf k) h (reads-le16 (wordOf k)) (rw same-control (reads-after h d)))
+
+-- ---- nothing that is written says that information elements follow
+elements-go : (b : ℕ) (t : Bool) → b / 2 % 2 ≡ 0 → choose t (bit (b / 2)) false ≡ false
+elements-go b true e = ne-eqb (b / 2 % 2) 1 (λ z. omega arith)
+elements-go b false e = refl
+
+high-byte : (h : Repr) (r : List ℕ) → getD (bytesOf h ++ r) 1 0 ≡ wordOf (controlFor h) / 256
+unfolding bytesOf frontBytes le16Bytes
+high-byte h r = refl
+
+pub no-elements : (h : Repr) (r : List ℕ) → hasElements (bytesOf h ++ r) ≡ false
+unfolding saysElements
+no-elements h r = let b = wordOf (controlFor h) / 256 in rw (high-byte h r) (elements-go b (eqb (b / 16 % 4) 2) (word-elements (controlFor h)))
 
 -- ---- as the frame's whole bytes, and in the room that `emit` leaves
 mac-is : (s : List ℕ) → 3 ≤ length s → length s ≤ 127 → mac s ≡ header s 0
 unfolding mac
 mac-is s l u = rw (le-ltb (length s) 3 l, le-ltb 127 (length s) u)
 
-pub length-least : (h : Repr) → 5 ≤ lengthOf h
+pub length-least : (h : Repr) → 4 ≤ lengthOf h
 unfolding lengthOf
-length-least h = go (h .«pan_id_compression») (fieldLength (h .«dst_addr») + fieldLength (h .«src_addr»))
+length-least h = go (suppresses h) (choose (h .«pan_id_compression») 0 2) (fieldLength (h .«dst_addr») + fieldLength (h .«src_addr»))
   where
-    go : (c : Bool) (n : ℕ) → 5 ≤ choose c 5 7 + n
-    go true n = omega arith
-    go false n = omega arith
+    go : (t : Bool) (c n : ℕ) → 4 ≤ choose t 4 5 + c + n
+    go true c n = omega arith
+    go false c n = omega arith
 
 pub reads-back : (h : Repr) (payload : List ℕ) → roundTrips h ≡ true → lengthOf h + length payload ≤ 127 → mac (bytesOf h ++ payload) ≡ got h (lengthOf h)
 reads-back h payload e l =

@@ -1,5 +1,6 @@
 -- The steps of the writers, for `search`; and the length of what each writes.
 use Prim.Native.Nat.{ℕ, _+_, _≤_}
+use native.Mathlib.Nat.{zero-add}
 use native.Mathlib.Omega.{arith}
 use mathlib.Core.List.{List, _++_}
 use mathlib.Core.Bool.{Bool, true, false}
@@ -9,9 +10,9 @@ use Rattle.octets.specs.Read.{choose}
 use Rattle.octets.specs.Write.{put, byteBytes, be16Bytes, be32Bytes, be64Bytes, le16Bytes, le32Bytes, le64Bytes}
 use Rattle.octets.proofs.Puts.{more}
 use Rattle.ieee802154.specs.Address.{addressLength, addressBytes}
-use Rattle.ieee802154.specs.Addressing.{modeOf, fieldLength, fieldBytes}
+use Rattle.ieee802154.specs.Addressing.{panOr, modeOf, fieldLength, fieldBytes}
 use Rattle.ieee802154.specs.Control.{wordOf}
-use Rattle.ieee802154.specs.Mac.{controlWith, controlFor, lengthOf, frontBytes, sourceBytes, backBytes, bytesOf}
+use Rattle.ieee802154.specs.Mac.{sequenceOr, suppresses, controlWith, controlFor, frontLength, lengthOf, frontBytes, sourceBytes, backBytes, bytesOf}
 use Rattle.ieee802154.specs.declared.addr.Address.{Address}
 use Rattle.ieee802154.specs.declared.addr.Address.the-variants.{Absent, Short, Extended}
 use Rattle.ieee802154.specs.declared.addr.AddressField.{AddressField}
@@ -36,26 +37,43 @@ pub more-field : (l m n : List ℕ) (at k : ℕ) (a : AddressField) (bs : List �
 more-field l m n at k a bs h p q = more l m n at k (fieldBytes a) bs (length-field a ∙ sym h) p q
 
 -- ---- the header
-pub length-front : (h : Repr) → length (frontBytes h) ≡ 5
-unfolding frontBytes byteBytes le16Bytes
-length-front h = refl
+front-go : (t : Bool) (w q p : ℕ) → length (le16Bytes w ++ choose t (le16Bytes p) (byteBytes q ++ le16Bytes p)) ≡ choose t 4 5
+unfolding byteBytes le16Bytes
+front-go true w q p = refl
+front-go false w q p = refl
 
-pub more-front : (l m n : List ℕ) (h : Repr) (bs : List ℕ) → m ≡ put 0 (frontBytes h) l → n ≡ put 5 bs m → n ≡ put 0 (frontBytes h ++ bs) l
-more-front l m n h bs p q = more l m n 0 5 (frontBytes h) bs (length-front h) p q
+pub length-front : (h : Repr) → length (frontBytes h) ≡ frontLength h
+unfolding frontBytes
+length-front h = front-go (suppresses h) (wordOf (controlFor h)) (sequenceOr (h .«sequence_number»)) (panOr (h .«dst_pan_id»))
+
+pub more-front : (l m n : List ℕ) (h : Repr) (bs : List ℕ) → m ≡ put 0 (frontBytes h) l → n ≡ put (frontLength h) bs m → n ≡ put 0 (frontBytes h ++ bs) l
+more-front l m n h bs p q = more l m n 0 (frontLength h) (frontBytes h) bs (length-front h) p (q ∙ ap (λ i. put i bs m) (sym (zero-add (frontLength h))))
+
+-- from a place that a call gave
+pub put-from : (l n : List ℕ) (a b : ℕ) (bs : List ℕ) → a ≡ b → n ≡ put a bs l → n ≡ put b bs l
+put-from l n a b bs p q = q ∙ ap (λ i. put i bs l) p
+
+-- by a test whose outcome a call gave
+pub put-told : {b : Bool} (t : Bool) (at : ℕ) (cs bs l n : List ℕ) → b ≡ t → b ≡ true → n ≡ put at cs l → n ≡ put at (choose t cs bs) l
+put-told t at cs bs l n p h e = rw (← p, h) e
+
+pub put-told-not : {b : Bool} (t : Bool) (at : ℕ) (cs bs l n : List ℕ) → b ≡ t → b ≡ false → n ≡ put at bs l → n ≡ put at (choose t cs bs) l
+put-told-not t at cs bs l n p h e = rw (← p, h) e
 
 -- the frame control field of a header, as calls give its parts
-pub control-told : (h : Repr) (d s : ℕ) → d ≡ modeOf (h .«dst_addr») → s ≡ modeOf (h .«src_addr») → controlWith h d s ≡ controlFor h
-control-told h d s p q = ap (λ z. controlWith h z s) p ∙ ap (λ z. controlWith h (modeOf (h .«dst_addr»)) z) q
+pub control-told : (h : Repr) (t : Bool) (d s : ℕ) → t ≡ suppresses h → d ≡ modeOf (h .«dst_addr») → s ≡ modeOf (h .«src_addr») → controlWith h t d s ≡ controlFor h
+control-told h t d s r p q =
+    ap (λ z. controlWith h z d s) r ∙ ap (λ z. controlWith h (suppresses h) z s) p ∙ ap (λ z. controlWith h (suppresses h) (modeOf (h .«dst_addr»)) z) q
 
 pub word-told : {w : ℕ} {k : Control} (h : Repr) → w ≡ wordOf k → k ≡ controlFor h → w ≡ wordOf (controlFor h)
 word-told h p q = p ∙ ap wordOf q
 
-length-source : (t : Bool) (n : ℕ) (a : AddressField) → length (choose t (fieldBytes a) (le16Bytes n ++ fieldBytes a)) + 5 ≡ choose t 5 7 + fieldLength a
+length-source : (t : Bool) (n : ℕ) (a : AddressField) → length (choose t (fieldBytes a) (le16Bytes n ++ fieldBytes a)) ≡ choose t 0 2 + fieldLength a
 unfolding le16Bytes
 length-source true n a = omega (arith, length-field a)
 length-source false n a = omega (arith, length-field a)
 
-length-sources : (h : Repr) → length (sourceBytes h) + 5 ≡ choose (h .«pan_id_compression») 5 7 + fieldLength (h .«src_addr»)
+length-sources : (h : Repr) → length (sourceBytes h) ≡ choose (h .«pan_id_compression») 0 2 + fieldLength (h .«src_addr»)
 unfolding sourceBytes
 length-sources h = length-source (h .«pan_id_compression») _ (h .«src_addr»)
 
@@ -69,7 +87,7 @@ pub length-le16 : (x : ℕ) → length (le16Bytes x) ≡ 2
 unfolding le16Bytes
 length-le16 x = refl
 
--- ---- no header is longer than 23 bytes: two extended addresses, uncompressed
+-- ---- no header is longer than 23 bytes: a sequence number, two extended addresses, uncompressed
 field-most : (a : AddressField) → fieldLength a ≤ 8
 field-most AddressField.None = omega arith
 field-most (AddressField.Some Absent) = omega arith
@@ -78,8 +96,10 @@ field-most (AddressField.Some (Extended x)) = omega arith
 
 pub length-most : (h : Repr) → lengthOf h ≤ 23
 unfolding lengthOf
-length-most h = go (h .«pan_id_compression») (fieldLength (h .«dst_addr»)) (fieldLength (h .«src_addr»)) (field-most (h .«dst_addr»)) (field-most (h .«src_addr»))
+length-most h = go (suppresses h) (h .«pan_id_compression») (fieldLength (h .«dst_addr»)) (fieldLength (h .«src_addr»)) (field-most (h .«dst_addr»)) (field-most (h .«src_addr»))
   where
-    go : (c : Bool) (d s : ℕ) → d ≤ 8 → s ≤ 8 → choose c 5 7 + (d + s) ≤ 23
-    go true d s p q = omega arith
-    go false d s p q = omega arith
+    go : (t c : Bool) (d s : ℕ) → d ≤ 8 → s ≤ 8 → choose t 4 5 + choose c 0 2 + (d + s) ≤ 23
+    go true true d s p q = omega arith
+    go true false d s p q = omega arith
+    go false true d s p q = omega arith
+    go false false d s p q = omega arith

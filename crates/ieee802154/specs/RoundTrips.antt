@@ -4,20 +4,15 @@ use Prim.Native.Nat.{_+_}
 use mathlib.Core.Bool.{Bool, true, false, not, _&&_}
 use lib.Dec.{eqb, ltb}
 use Rattle.octets.specs.Read.{choose}
-use Rattle.octets.specs.declared.field.ByteField.{ByteField}
 use Rattle.ieee802154.specs.Control.{bitOf, supported, hasAddressing, carried}
 use Rattle.ieee802154.specs.Addressing.{panOr}
-use Rattle.ieee802154.specs.Mac.{controlFor}
+use Rattle.ieee802154.specs.Mac.{hasByte, suppresses, controlFor}
 use Rattle.ieee802154.specs.declared.addr.PanField.{PanField}
 use Rattle.ieee802154.specs.declared.addr.AddressField.{AddressField}
 use Rattle.ieee802154.specs.declared.control.Carried.{Carried}
 use Rattle.ieee802154.specs.declared.header.Repr.{Repr}
 
 -- ---- a field is there; an absent address, `Some(Absent)`, is there
-abbrev pub hasByte : ByteField → Bool
-hasByte ByteField.None = false
-hasByte (ByteField.Some x) = true
-
 abbrev pub hasPan : PanField → Bool
 hasPan PanField.None = false
 hasPan (PanField.Some x) = true
@@ -41,7 +36,7 @@ pansStand c p d s =
     && choose (hasPan d) true (eqb (panOr s) 0)))
 
 -- ---- no auxiliary security header is written, so security is off; the version is within its bits, and the version and the modes are read;
--- the frame type has addressing, and with it a sequence number; both addresses are there
+-- the frame type has addressing, and with it a sequence number, which is there or is left out; both addresses are there
 unfoldable pub roundTrips : Repr → Bool
 roundTrips h =
     let k = controlFor h in
@@ -49,7 +44,7 @@ roundTrips h =
     && (ltb (h .«frame_version» .0) 4
     && (supported k
     && (hasAddressing k
-    && (hasByte (h .«sequence_number»)
+    && (choose (suppresses h) true (hasByte (h .«sequence_number»))
     && (hasAddress (h .«dst_addr»)
     && (hasAddress (h .«src_addr»)
     && pansStand (h .«pan_id_compression») (carried k) (h .«dst_pan_id») (h .«src_pan_id»)))))))

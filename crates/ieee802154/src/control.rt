@@ -2,7 +2,8 @@
 ghost use mathlib.Core.Path.{_≡_};
 ghost use Prim.Native.Nat.{_≤_};
 ghost use lib.Dec.{eqb};
-ghost use Rattle.ieee802154.specs.Control.{controlOf, wordOf, bitOf, supported, hasSequence, hasAddressing, carried01, carried2, carried};
+ghost use lib.ListN.{getD};
+ghost use Rattle.ieee802154.specs.Control.{controlOf, wordOf, bitOf, supported, saysElements, hasElements, hasSequence, mayOmit, omitsSequence, hasAddressing, carried01, carried2, carried};
 
 // The frame type: every number of its three bits, named or not.
 pub struct FrameType(pub u8);
@@ -49,6 +50,39 @@ impl FrameVersion {
     pub const IEEE802154_2006: FrameVersion = FrameVersion(1);
 
     pub const IEEE802154: FrameVersion = FrameVersion(2);
+
+    // Whether a frame of this version and type may leave its sequence number out.
+    pub fn may_omit(self, kind: FrameType) -> bool
+        ensures { λ r. ⌜ r ≡ mayOmit (self .0) (kind .0) ⌝ }
+    {
+        if self.0 == FrameVersion::IEEE802154.0 {
+            return kind.0 < 4;
+        }
+        false
+    }
+}
+
+// The frame control field's high byte, 0 where the frame ends before it.
+fn high_byte(frame: &[u8]) -> u8
+    ensures { λ r. ⌜ r ≡ getD (now (frame .entry)) 1 0 ⌝ }
+{
+    if 1 < frame.len() { frame[1] } else { 0 }
+}
+
+fn says_elements(b: u8) -> bool
+    ensures { λ r. ⌜ r ≡ saysElements b ⌝ }
+{
+    if b / 16 % 4 == FrameVersion::IEEE802154.0 {
+        return b / 2 % 2 == 1;
+    }
+    false
+}
+
+// Whether a frame says that it carries information elements.
+pub fn has_elements(frame: &[u8]) -> bool
+    ensures { λ r. ⌜ r ≡ hasElements (now (frame .entry)) ⌝ }
+{
+    says_elements(high_byte(frame))
 }
 
 // The frame control field.
@@ -58,6 +92,7 @@ pub struct Control {
     pub frame_pending: bool,
     pub ack_request: bool,
     pub pan_id_compression: bool,
+    pub sequence_suppressed: bool,
     pub dst_addr_mode: AddressingMode,
     pub frame_version: FrameVersion,
     pub src_addr_mode: AddressingMode,
@@ -80,6 +115,7 @@ impl Control {
             frame_pending: fc / 16 % 2 == 1,
             ack_request: fc / 32 % 2 == 1,
             pan_id_compression: fc / 64 % 2 == 1,
+            sequence_suppressed: fc / 256 % 2 == 1,
             dst_addr_mode: AddressingMode((fc / 1024 % 4) as u8),
             frame_version: FrameVersion((fc / 4096 % 4) as u8),
             src_addr_mode: AddressingMode((fc / 16384 % 4) as u8),
@@ -94,7 +130,8 @@ impl Control {
             + bit_of(self.security_enabled) * 8
             + bit_of(self.frame_pending) * 16
             + bit_of(self.ack_request) * 32
-            + bit_of(self.pan_id_compression) * 64;
+            + bit_of(self.pan_id_compression) * 64
+            + bit_of(self.sequence_suppressed) * 256;
         let dst = (self.dst_addr_mode.0 as u16) % 4;
         let version = (self.frame_version.0 as u16) % 4;
         let src = (self.src_addr_mode.0 as u16) % 4;
@@ -135,6 +172,18 @@ impl Control {
             return false;
         }
         t < FrameType::FRAGMENT_OR_FRAK.0
+    }
+
+    // Whether the sequence number is left out.
+    pub fn omits_sequence(self) -> bool
+        ensures { λ r. ⌜ r ≡ omitsSequence self ⌝ }
+    {
+        let version = self.frame_version;
+        let kind = self.frame_type;
+        if self.sequence_suppressed {
+            return version.may_omit(kind);
+        }
+        false
     }
 
     // Whether the frame type has addressing fields.

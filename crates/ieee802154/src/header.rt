@@ -1,7 +1,7 @@
 // MAC headers, read and written.
 ghost use mathlib.Core.Path.{_≡_};
 ghost use Rattle.octets.specs.Write.{put, ofWritten, wrote, over};
-ghost use Rattle.ieee802154.specs.Mac.{ofParsed, sequenceOf, sequenceOr, reprOf, controlFor, headerRest, header, mac, lengthOf, frontBytes, sourceBytes, backBytes, bytesOf};
+ghost use Rattle.ieee802154.specs.Mac.{ofParsed, sequenceOf, sequenceOr, suppresses, reprOf, controlFor, headerRest, afterControl, header, mac, frontLength, lengthOf, frontBytes, sourceBytes, backBytes, bytesOf};
 use super::addr::AddressField;
 use super::addr::PanField;
 use super::addressing::Addressing;
@@ -62,7 +62,7 @@ impl Repr {
         }
     }
 
-    fn of(k: Control, sequence: u8, a: Addressing) -> Repr
+    fn of(k: Control, sequence: ByteField, a: Addressing) -> Repr
         ensures { λ r. ⌜ r ≡ reprOf k sequence a ⌝ }
     {
         let frame_type = k.frame_type;
@@ -73,13 +73,12 @@ impl Repr {
         let dst_addr = dst.addr;
         let src_pan_id = src.pan;
         let src_addr = src.addr;
-        let sequence_number = Repr::sequence(k, sequence);
         Repr {
             frame_type,
             security_enabled: k.security_enabled,
             frame_pending: k.frame_pending,
             ack_request: k.ack_request,
-            sequence_number,
+            sequence_number: sequence,
             pan_id_compression: k.pan_id_compression,
             frame_version,
             dst_pan_id,
@@ -90,7 +89,7 @@ impl Repr {
     }
 
     // What follows the frame control field and the sequence number.
-    fn rest(buf: &[u8], k: Control, sequence: u8, c: Cursor) -> Parsed
+    fn rest(buf: &[u8], k: Control, sequence: ByteField, c: Cursor) -> Parsed
         ensures { λ r. ⌜ ofParsed r ≡ headerRest k sequence (now (buf .entry)) (c .at) ⌝ }
     {
         if k.supported() {
@@ -106,14 +105,27 @@ impl Repr {
         }
     }
 
+    // What follows the frame control field.
+    fn after_control(buf: &[u8], k: Control, c: Cursor) -> Parsed
+        ensures { λ r. ⌜ ofParsed r ≡ afterControl k (now (buf .entry)) (c .at) ⌝ }
+    {
+        if k.omits_sequence() {
+            return Repr::rest(buf, k, ByteField::None, c);
+        }
+        match c.byte(buf) {
+            ByteRead::Field(q, d) => {
+                let sequence = Repr::sequence(k, q);
+                Repr::rest(buf, k, sequence, d)
+            }
+            ByteRead::Refused(e) => Parsed::Refused(e),
+        }
+    }
+
     fn header(buf: &[u8]) -> Parsed
         ensures { λ r. ⌜ ofParsed r ≡ header (now (buf .entry)) 0 ⌝ }
     {
         match Cursor::START.le16(buf) {
-            WordRead::Field(fc, c) => match c.byte(buf) {
-                ByteRead::Field(sequence, d) => Repr::rest(buf, Control::of(fc), sequence, d),
-                ByteRead::Refused(e) => Parsed::Refused(e),
-            },
+            WordRead::Field(fc, c) => Repr::after_control(buf, Control::of(fc), c),
             WordRead::Refused(e) => Parsed::Refused(e),
         }
     }
@@ -131,17 +143,38 @@ impl Repr {
         Repr::header(buf)
     }
 
+    // Whether `emit` leaves the sequence number out.
+    fn suppresses(self) -> bool
+        ensures { λ r. ⌜ r ≡ suppresses self ⌝ }
+    {
+        let sequence = self.sequence_number;
+        let version = self.frame_version;
+        let kind = self.frame_type;
+        match sequence {
+            ByteField::None => version.may_omit(kind),
+            ByteField::Some(_) => false,
+        }
+    }
+
+    // How much `emit` writes before the destination address.
+    fn front_len(self) -> u8
+        ensures { λ r. ⌜ r ≡ frontLength self ⌝ }
+    {
+        if self.suppresses() { 4 } else { 5 }
+    }
+
     // The length of the header that `emit` writes.
     pub fn buffer_len(self) -> usize
         ensures { λ r. ⌜ r ≡ lengthOf self ⌝ }
     {
         let dst_addr = self.dst_addr;
         let src_addr = self.src_addr;
+        let front = self.front_len() as usize;
         let addresses = dst_addr.len() + src_addr.len();
         if self.pan_id_compression {
-            5 + addresses
+            front + addresses
         } else {
-            7 + addresses
+            front + 2 + addresses
         }
     }
 
@@ -155,19 +188,21 @@ impl Repr {
         let src_addr = self.src_addr;
         let dst_addr_mode = dst_addr.mode();
         let src_addr_mode = src_addr.mode();
+        let sequence_suppressed = self.suppresses();
         Control {
             frame_type,
             security_enabled: self.security_enabled,
             frame_pending: self.frame_pending,
             ack_request: self.ack_request,
             pan_id_compression: self.pan_id_compression,
+            sequence_suppressed,
             dst_addr_mode,
             frame_version,
             src_addr_mode,
         }
     }
 
-    // The frame control field, the sequence number and the destination PAN.
+    // The frame control field, the sequence number unless it is left out, and the destination PAN.
     fn put_front(self, buf: &mut [u8])
         ensures { λ _. ⌜ now (buf .exit) ≡ put 0 (frontBytes self) (now (buf .entry)) ⌝ }
     {
@@ -177,6 +212,10 @@ impl Repr {
         let byte = sequence_or_zero(sequence);
         let pan = dst.or_zero();
         put_le16(buf, 0, word);
+        if self.suppresses() {
+            put_le16(buf, 2, pan.0);
+            return;
+        }
         put_byte(buf, 2, byte);
         put_le16(buf, 3, pan.0);
     }
@@ -202,15 +241,17 @@ impl Repr {
 
     // The destination address and what follows it.
     fn put_back(self, buf: &mut [u8])
-        ensures { λ _. ⌜ now (buf .exit) ≡ put 5 (backBytes self) (now (buf .entry)) ⌝ }
+        ensures { λ _. ⌜ now (buf .exit) ≡ put (frontLength self) (backBytes self) (now (buf .entry)) ⌝ }
     {
         let dst_addr = self.dst_addr;
+        let at = self.front_len() as usize;
         let n = dst_addr.len();
-        dst_addr.put(buf, 5);
-        self.put_source(buf, 5 + n);
+        dst_addr.put(buf, at);
+        self.put_source(buf, at + n);
     }
 
-    // Writes the header into the front of the room. A missing sequence number or PAN is written as zero.
+    // Writes the header into the front of the room. A missing sequence number is left out where it may be; else it is
+    // written as zero, as a missing PAN is.
     pub fn emit(self, buf: &mut [u8]) -> Written
         ensures { λ r. ⌜ (ofWritten r ≡ wrote (lengthOf self) (now (buf .entry))) × (now (buf .exit) ≡ over (lengthOf self) (bytesOf self) (now (buf .entry))) ⌝ }
     {

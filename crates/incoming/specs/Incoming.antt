@@ -9,6 +9,7 @@ use Rattle.octets.specs.Read.{Answer, is, refused, Placed, andThen, choose}
 use Rattle.octets.specs.Refusal.{numberOf}
 use Rattle.octets.specs.Write.{over}
 use Rattle.octets.specs.declared.field.WordField.{WordField}
+use Rattle.ieee802154.specs.Control.{hasElements}
 use Rattle.ieee802154.specs.Mac.{mac}
 use Rattle.ieee802154.specs.declared.addr.Address.{Address}
 use Rattle.ieee802154.specs.declared.addr.Address.the-variants.{Absent}
@@ -50,12 +51,13 @@ arrivalOf h n = record {
   at = n;
 }
 
--- the MAC header's refusals; then 13: secured, or not a Data frame
+-- the MAC header's refusals; then 13: secured, with information elements, or not a Data frame
 unfoldable pub framed : List ℕ → Answer Arrival
 framed s =
     andThen (mac s)
     (λ p. choose (p .value .«security_enabled») (refused 13)
-    (choose (eqb (p .value .«frame_type» .0) 1) (is (arrivalOf (p .value) (p .next))) (refused 13)))
+    (choose (hasElements s) (refused 13)
+    (choose (eqb (p .value .«frame_type» .0) 1) (is (arrivalOf (p .value) (p .next))) (refused 13))))
 
 -- where a mesh header stands, its originator and final address take the place of the MAC addresses; the PAN is still the MAC header's
 abbrev pub through : Arrival → MeshField → ℕ → Arrival

@@ -6,6 +6,7 @@ use ieee802154::AddressField;
 use ieee802154::PanField;
 use ieee802154::Parsed;
 use ieee802154::Repr;
+use ieee802154::control::has_elements;
 use octets::cursor::Cursor;
 use octets::refusal::Refusal;
 use relay::MeshField;
@@ -59,13 +60,16 @@ impl Arrival {
         Arrival { src, pan, dst, at }
     }
 
-    // The refusals of the MAC header, and then 13: secured, or not a Data frame.
+    // The refusals of the MAC header, and then 13: secured, with information elements, or not a Data frame.
     fn framed(frame: &[u8]) -> ArrivalAnswer
         ensures { λ r. ⌜ ofArrival r ≡ framed (now (frame .entry)) ⌝ }
     {
         match Repr::parse(frame) {
             Parsed::Header(mac, at) => {
                 if mac.security_enabled {
+                    return ArrivalAnswer::Refused(Refusal::NotExpanded);
+                }
+                if has_elements(frame) {
                     return ArrivalAnswer::Refused(Refusal::NotExpanded);
                 }
                 if mac.frame_type.is_data() {

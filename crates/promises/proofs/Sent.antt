@@ -13,6 +13,7 @@ use Rattle.ieee802154.specs.Address.{isPresent}
 use Rattle.ieee802154.specs.declared.addr.PanField.{PanField}
 use Rattle.ieee802154.specs.declared.addr.Address.{Address}
 use Rattle.ieee802154.specs.declared.addr.Address.the-variants.{Absent, Short, Extended}
+use Rattle.ieee802154.proofs.RoundTrips.{no-elements}
 use Rattle.sixlowpan.specs.Dispatch.{dispatch}
 use Rattle.sixlowpan.specs.declared.dispatch.SixlowpanPacket.{SixlowpanPacket}
 use Rattle.sixlowpan.specs.declared.dispatch.SixlowpanPacket.the-variants.{FragmentHeader, IphcHeader}
@@ -25,9 +26,9 @@ use Rattle.reassembly.specs.Slots.{nodeOf, addressed, isGate}
 use Rattle.reassembly.specs.declared.slot.Source.{Source}
 use Rattle.receiver.specs.Receive.{keyOf, welcome, admitted, frameCall, brings, carries}
 use Rattle.cutting.specs.Fields.{isOurs}
-use Rattle.cutting.specs.Head.{macLength, covers}
+use Rattle.cutting.specs.Head.{macOf, macLength, covers}
 use Rattle.cutting.specs.Pieces.{pieces}
-use Rattle.cutting.specs.Cut.{planOf, frameOf, hasBoth}
+use Rattle.cutting.specs.Cut.{planOf, middle, partOf, frameOf, hasBoth}
 use Rattle.cutting.specs.declared.link.Link.{Link}
 use Rattle.cutting.specs.declared.piece.Piece.{Piece}
 use Rattle.cutting.specs.declared.piece.Piece.the-variants.{Whole, First, Later}
@@ -60,8 +61,8 @@ module _ (l : Link) (d : List ℕ) (K : Cuts l d) (gs : List Source) (gate : isG
 
   -- its MAC header is read; behind it stands what dispatch knows, so neither header of a relay
   bare : (p : Piece) → length (frameOf l d p) ≤ l .limit → framed (frameOf l d p) ≡ is arrived
-  unfolding framed
-  bare p h = rw (frame-mac l d p (K .both) (omega (arith, K .ready .3))) refl
+  unfolding framed frameOf
+  bare p h = rw (frame-mac l d p (K .both) (omega (arith, K .ready .3)), no-elements (macOf l) (middle l d p ++ partOf d p)) refl
 
   comes : (p : Piece) (k : SixlowpanPacket) → length (frameOf l d p) ≤ l .limit → dispatch (frameOf l d p) (macLength l) ≡ is k → admitted gs (frameOf l d p) ≡ is arrived
   unfolding admitted welcome

@@ -6,7 +6,7 @@ use mathlib.Core.Bool.{true, false}
 use mathlib.Core.List.{List, [], _∷_}
 use Rattle.octets.specs.Read.{byte, be16, le16}
 use Rattle.octets.specs.Write.{put, byteBytes, be16Bytes, be32Bytes, be64Bytes}
-use Rattle.ieee802154.specs.Control.{supported, hasSequence, hasAddressing, carried01, carried}
+use Rattle.ieee802154.specs.Control.{supported, saysElements, hasSequence, omitsSequence, hasAddressing, carried01, carried}
 use Rattle.ieee802154.specs.Addressing.{panField, addressField, side, sides, addressing}
 use Rattle.ieee802154.specs.Security.{auxiliary}
 use Rattle.ieee802154.specs.Mac as Mac
@@ -152,7 +152,7 @@ module _ (t : ℕ) where
       → (frameCall (gateways w) [] t old-first ≡ part t (low old-key last-month 7 false))
       × (frameCall (gateways w) [] t (new-first w) ≡ part t (low (new-key w) (this-month w) 7 false))
       × (frameCall (gateways w) [] t elided-frame ≡ part t (low old-key resent 7 true))
-  unfolding byte be16 le16 byteBytes be16Bytes be32Bytes be64Bytes put supported hasSequence hasAddressing carried01 carried panField addressField side sides addressing auxiliary Mac.sequenceOf Mac.reprOf Mac.headerRest Mac.header Mac.mac dispatchOf dispatch fragRest frag nextHeader nhcOf nhc bothPorts ports checksum udpRest udp Iphc.base Iphc.contexts Iphc.traffic Iphc.hopLimit Iphc.frontRest Iphc.front Iphc.identifier Iphc.prefixOf Iphc.elided Iphc.source Iphc.destination Iphc.addresses Iphc.reprOf Iphc.behind Iphc.iphc transport byNext headers Full.frontBytes Full.bothBytes Full.ipv6Bytes Full.udpBytes Expand.plain Expand.bytesOf Expand.sized Expand.expansion meshField broadcastField relay framed arrival piece fragment payload count sameSource sameNode present addressed isGate keyOf welcome admitted frameCall zeroed
+  unfolding byte be16 le16 byteBytes be16Bytes be32Bytes be64Bytes put supported saysElements hasSequence omitsSequence hasAddressing carried01 carried panField addressField side sides addressing auxiliary Mac.sequenceOf Mac.reprOf Mac.headerRest Mac.afterControl Mac.header Mac.mac dispatchOf dispatch fragRest frag nextHeader nhcOf nhc bothPorts ports checksum udpRest udp Iphc.base Iphc.contexts Iphc.traffic Iphc.hopLimit Iphc.frontRest Iphc.front Iphc.identifier Iphc.prefixOf Iphc.elided Iphc.source Iphc.destination Iphc.addresses Iphc.reprOf Iphc.behind Iphc.iphc transport byNext headers Full.frontBytes Full.bothBytes Full.ipv6Bytes Full.udpBytes Expand.plain Expand.bytesOf Expand.sized Expand.expansion meshField broadcastField relay framed arrival piece fragment payload count sameSource sameNode present addressed isGate keyOf welcome admitted frameCall zeroed
   first-brings neighbour = (refl, refl, refl)
   first-brings building = (refl, refl, refl)
 
@@ -161,6 +161,6 @@ module _ (t : ℕ) where
       → (frameCall (gateways w) [] t old-later ≡ part t (high old-key last-month 7 false))
       × (frameCall (gateways w) [] t (new-later w) ≡ part t (high (new-key w) (this-month w) 7 false))
       × (frameCall (gateways w) [] t resent-later ≡ part t (high old-key resent 7 true))
-  unfolding byte be16 le16 supported hasSequence hasAddressing carried01 carried panField addressField side sides addressing auxiliary Mac.sequenceOf Mac.reprOf Mac.headerRest Mac.header Mac.mac dispatchOf dispatch fragRest frag meshField broadcastField relay framed arrival piece fragment payload count sameSource sameNode present addressed isGate keyOf welcome admitted frameCall zeroed
+  unfolding byte be16 le16 supported saysElements hasSequence omitsSequence hasAddressing carried01 carried panField addressField side sides addressing auxiliary Mac.sequenceOf Mac.reprOf Mac.headerRest Mac.afterControl Mac.header Mac.mac dispatchOf dispatch fragRest frag meshField broadcastField relay framed arrival piece fragment payload count sameSource sameNode present addressed isGate keyOf welcome admitted frameCall zeroed
   later-brings neighbour = (refl, refl, refl)
   later-brings building = (refl, refl, refl)

@@ -43,6 +43,15 @@ mul-low-4 c = search needs
 add-low-4 : tie.Need-add-low-4
 add-low-4 c = search needs
 
+bit-of-requires-5 : tie.Need-bit-of-requires-5
+bit-of-requires-5 c κs = search needs
+
+mul-low-5 : tie.Need-mul-low-5
+mul-low-5 c = search needs
+
+add-low-5 : tie.Need-add-low-5
+add-low-5 c = search needs
+
 cast-dst : tie.Need-cast-dst
 cast-dst c = search needs
 
@@ -91,6 +100,9 @@ word-spec =
     bit-of-requires-4
     mul-low-4
     add-low-4
+    bit-of-requires-5
+    mul-low-5
+    add-low-5
     cast-dst
     cast-version
     cast-src

@@ -1,7 +1,7 @@
-use borrow.Author.Needs.{needs}
 use Rattle.ieee802154.proofs.ReadSteps.{read-steps}
 use Rattle.octets.proofs.Steps.{steps}
 use Rattle.ieee802154.specs.Mac.{header}
+use borrow.Author.Needs.{needs}
 use Rattle.ieee802154.proofs.header.Repr.header.Statement.{statement}
 use Rattle.ieee802154.proofs.header.Repr.header.Tie as tie
 
@@ -11,23 +11,14 @@ le16-requires c κs = search needs
 enum-known-fc : tie.Need-enum-known-fc
 enum-known-fc c = search needs
 
-byte-requires : tie.Need-byte-requires
-byte-requires c κs = search needs
-
-enum-known-sequence : tie.Need-enum-known-sequence
-enum-known-sequence c = search needs
-
 of-requires : tie.Need-of-requires
 of-requires c κs = search needs
 
-rest-requires : tie.Need-rest-requires
-rest-requires c κs = search needs
+after-control-requires : tie.Need-after-control-requires
+after-control-requires c κs = search needs
 
 enum-known-e : tie.Need-enum-known-e
 enum-known-e c = search needs
-
-enum-known-e-2 : tie.Need-enum-known-e-2
-enum-known-e-2 c = search needs
 
 returns : tie.Need-returns
 unfolding header
@@ -37,22 +28,14 @@ returns-2 : tie.Need-returns-2
 unfolding header
 returns-2 c = search (read-steps, steps)
 
-returns-3 : tie.Need-returns-3
-unfolding header
-returns-3 c = search (read-steps, steps)
-
 pub header-spec : {M : Type 1} → statement M
 header-spec =
     tie.close
     (tie.spec
     le16-requires
     enum-known-fc
-    byte-requires
-    enum-known-sequence
     of-requires
-    rest-requires
+    after-control-requires
     enum-known-e
-    enum-known-e-2
     returns
-    returns-2
-    returns-3)
+    returns-2)

@@ -1,8 +1,14 @@
-use Rattle.ieee802154.proofs.WriteSteps.{more-field}
+use Rattle.ieee802154.proofs.WriteSteps.{more-field, put-from}
 use Rattle.ieee802154.specs.Mac.{backBytes}
 use borrow.Author.Needs.{needs}
 use Rattle.ieee802154.proofs.header.Repr.put_back.Statement.{statement}
 use Rattle.ieee802154.proofs.header.Repr.put_back.Tie as tie
+
+front-len-requires : tie.Need-front-len-requires
+front-len-requires c κs = search needs
+
+cast-at : tie.Need-cast-at
+cast-at c = search needs
 
 len-requires : tie.Need-len-requires
 len-requires c κs = search needs
@@ -21,9 +27,17 @@ same-length c = search needs
 
 returns : tie.Need-returns
 unfolding backBytes
-returns c = search more-field
+returns c = search (more-field, put-from)
 
 pub put-back-spec : {M : Type 1} → statement M
 put-back-spec =
     tie.close
-    (tie.spec len-requires put-requires add-put-source put-source-requires same-length returns)
+    (tie.spec
+    front-len-requires
+    cast-at
+    len-requires
+    put-requires
+    add-put-source
+    put-source-requires
+    same-length
+    returns)
