@@ -137,7 +137,35 @@ def witness():
     ]
 
 
-EXAMPLES = {"patch": patch, "two-gateways": two_gateways, "two-buildings": two_buildings, "damaged": damaged, "witness": witness}
+def relay():
+    """A shaft of over forty floors: the relay 0077 hands on what the gateway 0001 sends, and the controller hears some parts from
+    the gateway itself and some from the relay."""
+    datagram = patch_block(LAST_MONTH, "PATCH 2026-10 block 5 of 40\n", 136)
+    payloads = [part.payload for part in f.cut(datagram, 9, LAST_MONTH, CONTROLLER, 80, first_end=56, step=40)]
+    bare = f.mac(LAST_MONTH, CONTROLLER)
+    hop = f.mac(f.short(0x77), CONTROLLER)
+    long_hop = f.mac(f.extended(0x0011223344556677), CONTROLLER, None, version=2)
+    mesh = f.mesh(LAST_MONTH, CONTROLLER, 3)
+    flooded = f.mesh(THIS_MONTH, f.BROADCAST, 20) + f.broadcast(0x2a)
+    small = patch_block(THIS_MONTH, "hello", 60)
+    return [
+        "# A relay in a tall shaft: mesh and broadcast headers in front of ours.",
+        line(1000, bare + payloads[0], "the first part, heard from the gateway 0001 itself"),
+        line(1010, hop + mesh + payloads[1], "the second, from the relay 0077: the originator is 0001, three hops are left"),
+        line(1015, bare + payloads[1], "the second again, from the gateway: the same part, a repeat"),
+        line(1020, hop + payloads[2], "the third from the relay, but with no mesh header: 0077 is no gateway"),
+        line(1025, hop + f.mesh(NEIGHBOUR, CONTROLLER, 3) + payloads[2], "from 1234 by the relay: 1234 is no gateway either"),
+        line(1030, hop + mesh + mesh + payloads[2], "two mesh headers"),
+        line(1035, hop + mesh[:3], "a mesh header that is cut"),
+        line(1040, long_hop + mesh + payloads[2], "the third, by a relay with an extended address and no sequence number: whole"),
+        line(1050, hop + flooded + f.compress(small, THIS_MONTH, f.BROADCAST)[0] + small[48:],
+             "from 0002 to all, flooded: 20 hops left in a byte of their own, and a broadcast header"),
+        line(1060, hop + flooded + f.broadcast(0x2a) + b"\x7a", "two broadcast headers"),
+    ]
+
+
+EXAMPLES = {"patch": patch, "two-gateways": two_gateways, "two-buildings": two_buildings, "damaged": damaged, "witness": witness,
+            "relay": relay}
 
 
 def printed(capture):

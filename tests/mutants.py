@@ -514,9 +514,9 @@ MUTANTS = [
      "    return replace(mac, length=reader.at)\n"),
     ("9 tests the MAC's address", BOTH,
      "        mac = through_relays(mac, frame)\n"
-     "        if mac.src not in self.gateways:\n",
+     "        if sender_of(mac) not in self.gateways:\n",
      "        hop, mac = mac, through_relays(mac, frame)\n"
-     "        if hop.src not in self.gateways:\n"),
+     "        if sender_of(hop) not in self.gateways:\n"),
     ("6 tests the MAC's address", BOTH,
      "        mac = through_relays(mac, frame)\n",
      "        hop, mac = mac, through_relays(mac, frame)\n",
@@ -531,7 +531,7 @@ MUTANTS = [
      "        try:\n"
      "            mac = through_relays(mac, frame)\n"
      "        except Refused:\n"
-     "            if mac.src not in self.gateways:\n"
+     "            if sender_of(mac) not in self.gateways:\n"
      "                raise Refused(9)\n"
      "            raise\n"),
 

@@ -12,6 +12,8 @@ pub mod Origins
 pub mod Library
 pub mod TwoParts
 pub mod Worked
+pub mod Moved
+pub mod Relayed
 pub mod Witness
 pub mod Sent
 pub mod SentParts

@@ -36,6 +36,7 @@ use Rattle.ieee802154.specs.declared.addr.PanField.{PanField}
 use Rattle.reassembly.specs.declared.table.Gateway.{Gateway}
 use Rattle.receiver.proofs.Names.{frame-part}
 use Rattle.promises.proofs.Frames.{Fixed, fixed-begun, fixed-next, call-is, ran-left, as-calls, demand-3}
+use Rattle.promises.proofs.Relayed.{relayed-frame, relayed-brings}
 use Rattle.promises.proofs.Worked.{Other, neighbour, building, number, pan, gateways, old-key, new-key, last-month, this-month, resent, old-first, old-later, new-first, new-later, elided-frame, resent-later, first-brings, later-brings}
 
 abbrev listedAs : ℕ → ℕ → Gateway
@@ -395,3 +396,64 @@ module _ (w : Other) (m : List ℕ) (enough : 16384 ≤ length m) (o : List ℕ)
   pub resent-block : Concluded old-key resent (e₁ ∷ e₂ ∷ []) e₃
   unfolding endOf
   resent-block = demand-3 gs m old-key resent resent-cutting [] (e₁ ∷ e₂ ∷ []) e₃ resent-supposed resent-ran (all-answered w m .5)
+
+  -- ---- one part bare and one by a relay: 0001 sends last month's block, its later part comes by the relay 0077 and its first part directly
+  abbrev r₁ : Turn
+  r₁ = turn (σ₀ w m) o 1000 relayed-frame old-high
+
+  abbrev r₂ : Turn
+  r₂ = turn (σ₁ w m) o 1012 old-first old-low
+
+  relayed₁ : meant gs m r₁ ≡ part 1000 old-high
+  relayed₁ = meant-so 1000 relayed-frame old-high (relayed-brings 1000 w)
+
+  relayed₂ : meant gs m r₂ ≡ part 1012 old-low
+  relayed₂ = meant-so 1012 old-first old-low (first-brings 1012 w .0)
+
+  relayed-came :
+      (partsOf gs m old-key (r₁ ∷ []) ≡ old-high ∷ [])
+      × (partsOf gs m old-key (r₁ ∷ r₂ ∷ []) ≡ old-high ∷ old-low ∷ [])
+  unfolding partsOf came comes sameKey sameSource sameNode fitsIn zeroed
+  relayed-came = (rw relayed₁, rw (relayed₁, relayed₂))
+
+  of-relayed : (h : Turn) → In h (r₁ ∷ r₂ ∷ []) → named (h .frame) ≡ is old-key → (p : Part) × In p (old-cutting .parts) × Brings gs m h p
+  unfolding old-cutting zeroed finish fitsIn
+  of-relayed h (inl z) n = rw z (old-high, high-in old-key last-month 7 false refl (lit< tt) (lit≤ tt) refl refl refl, relayed₁)
+  of-relayed h (inr (inl z)) n = rw z (old-low, low-in old-key last-month 7 false refl (lit< tt) (lit≤ tt) refl refl refl, relayed₂)
+  of-relayed h (inr (inr z)) n = absurd z
+
+  pub relayed-supposed : Supposed gs m old-key last-month old-cutting [] (r₁ ∷ []) r₂
+  unfolding Forward
+  relayed-supposed = record {
+    gateways = listed w;
+    enough = enough;
+    forward = (lit≤ tt, (lit≤ tt, tt));
+    first = r₁;
+    then = r₂ ∷ [];
+    earliest = refl;
+    earliest-named = name-of 1000 relayed-frame old-high (relayed-brings 1000 w);
+    of-cutting = of-relayed;
+    cover = rw (relayed-came .1) (halves-cover old-key last-month 7 false refl (lit< tt) (lit≤ tt) (old-high ∷ old-low ∷ []) (inr (inl refl)) (inl refl));
+    not-before = λ c. low-missing old-key last-month 7 false refl (lit< tt) (lit≤ tt) (old-high ∷ []) (λ p i. only p old-high i) (rw (relayed-came .0) at c);
+    soon = lit< tt;
+  }
+
+  relayed-reply : (step (σ₁ w m) (part 1012 old-low)) .reply ≡ out last-month
+  unfolding run AllKept
+  relayed-reply =
+      let v = as-calls gs m old-key last-month old-cutting [] (r₁ ∷ []) r₂ relayed-supposed (all-answered w m .5) in
+      let p : part 1012 (v .0) ≡ part 1012 old-low = sym (v .1) ∙ relayed₂ in
+      let k : (step (next (σ₀ w m) (meant gs m r₁)) (part 1012 (v .0))) .reply ≡ out last-month = v .2 .exactly in
+      rw (relayed₁, p) at k
+
+  pub relayed-ran : Ran (σ₀ w m) (r₁ ∷ r₂ ∷ [])
+  unfolding Ran next
+  relayed-ran = (
+    meets (σ₀ w m) 1000 relayed-frame old-high fixed₀ (relayed-brings 1000 w) (all-answered w m .0),
+    (meets (σ₁ w m) 1012 old-first old-low fixed₁ (first-brings 1012 w .0) (ap answered relayed-reply), tt),
+  )
+
+  -- the two make the block
+  pub relayed-block : Concluded old-key last-month (r₁ ∷ []) r₂
+  unfolding endOf
+  relayed-block = demand-3 gs m old-key last-month old-cutting [] (r₁ ∷ []) r₂ relayed-supposed relayed-ran (all-answered w m .5)

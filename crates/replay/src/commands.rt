@@ -4,6 +4,7 @@ use super::compressed;
 use super::fragment;
 use super::mac;
 use super::nhc;
+use super::relays;
 use super::room;
 use super::room::Emitted;
 use check::same;
@@ -187,6 +188,9 @@ pub fn answer(
     out: &mut [u8],
     to: usize,
 ) -> usize {
+    if field::at(name, 0) == b'r' {
+        return relays::answer(name, line, from, a, out, to);
+    }
     let c = named(name);
     if is_emit(c) {
         return emit_line(c, line, from, a, out, to);

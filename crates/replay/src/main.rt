@@ -2,7 +2,7 @@
 // the protocol). A line that starts with `#` is answered by itself, one that is no command by `bad`, one that does not fit the
 // input by `bad long`.
 //
-// - `commands`: the commands by name. `mac`, `fragment`, `nhc`, `compressed`: what each does, by header.
+// - `commands`: the commands by name. `mac`, `fragment`, `nhc`, `compressed`, `relays`: what each does, by header.
 // - `fields`: the fields of a line. `answer`: the parts of an answer. `room`: what a writer writes into.
 mod answer;
 mod commands;
@@ -11,6 +11,7 @@ mod fields;
 mod fragment;
 mod mac;
 mod nhc;
+mod relays;
 mod room;
 
 use text::field;
