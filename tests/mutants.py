@@ -60,6 +60,8 @@ MUTANTS = [
      "        if mac.src not in [address for address, pan in self.gateways]:\n"),
     ("two gateways with one address are equal", CALLS,
      "len(set(gateways)) != len(gateways)", "len(set(addresses)) != len(gateways)"),
+    ("a relayed frame has no PAN", BOTH,
+     "mac = replace(mac, src=originator, dst=", "mac = replace(mac, src_pan=None, dst_pan=None, src=originator, dst="),
     ("slots counted by address only", CALLS,
      "if slot and slot.key[0] == gateway)", "if slot and slot.key[0][0] == gateway[0])"),
     ("same place with other bytes is harmless", BOTH,

@@ -111,7 +111,7 @@ def size_of(rng, most):
 
 def header(rng, src, dst, sequence=None):
     """A MAC header of any allowed form with these two addresses."""
-    wanted = getattr(src, "pan", f.PAN) if chance(rng, 0.97) else rng.choice((f.PAN, 0xffff, 1, None))
+    wanted = getattr(src, "pan", f.PAN) if chance(rng, 0.97 if dst else 0.7) else rng.choice((f.PAN, 0xffff, 1, None))
     for _ in range(20):
         version = rng.choice((0, 0, 0, 1, 1, 2, 2))
         compress = chance(rng, 0.8) and not (version < 2 and not src and not dst)
