@@ -2,7 +2,7 @@
 """The cutting of change request 2 (document 02) read a second time, and the program `cutter` held against it.
 
     cutting.py check                                           the vectors of `cutter`: their hand-made part made anew, all answered
-    cutting.py write                                           writes crates/cutter/stdin and crates/cutter/stdout
+    cutting.py write                                           writes them, and examples/answer.expected
     cutting.py run --cutter PATH [--count 4000] [--seed 1]     drawn lines, each answer compared
     cutting.py whole [--count 300] [--seed 1]                  what is cut here, in any order and repeated, comes back whole from model.py
     cutting.py answer < lines                                  the answers
@@ -378,6 +378,18 @@ def vectors():
     return ["\n".join(column) + "\n" for column in zip(*lines)]
 
 
+def answer_lines():
+    """What examples/c/answer.c and examples/rust/answer.rs print: the datagrams are built here anew."""
+    short, ext, two = f.short(1), f.extended(0x0011223344556677), f.short(2)
+    lines = []
+    for tag, (size, src, limit) in enumerate(((60, short, 127), (257, short, 127), (1280, short, 127), (1280, ext, 80), (2047, ext, 81)), 1):
+        data = bytes(7 * i % 256 for i in range(48, size))
+        datagram = f.udp_datagram(f.ip("fe80::ff:fe00:1"), f.ip("fe80::ff:fe00:2"), 0xf0b1, 0xf0b2, data)
+        made = [len(one) for one in cut(0xabcd, src, two, 5, tag, limit, datagram)]
+        lines.append(f"{size} bytes, at most {limit}: {len(made)} frames {' '.join(map(str, made[::-1]))}; out {size}, the same bytes")
+    return "\n".join(lines + ["from nobody: no 6", "IPv4: no 16"]) + "\n"
+
+
 def main():
     parser = argparse.ArgumentParser(description=__doc__.split("\n")[0])
     parser.add_argument("command", choices=("check", "write", "run", "whole", "answer"))
@@ -385,7 +397,7 @@ def main():
     parser.add_argument("--count", type=int)
     parser.add_argument("--seed", type=int, default=1)
     options = parser.parse_args()
-    names = [os.path.join(FOLDER, name) for name in ("stdin", "stdout")]
+    names = [os.path.join(FOLDER, name) for name in ("stdin", "stdout")] + [os.path.join(FOLDER, "..", "..", "examples", "answer.expected")]
     if options.command == "run":
         run(options.cutter, options.count or 4000, options.seed)
     elif options.command == "whole":
@@ -394,13 +406,13 @@ def main():
         for line in sys.stdin:
             print(answer(line.rstrip("\n")))
     elif options.command == "write":
-        for name, text in zip(names, vectors()):
+        for name, text in zip(names, vectors() + [answer_lines()]):
             with open(name, "w", encoding="ascii") as file:
                 file.write(text)
     else:
-        if [open(name, encoding="ascii").read() for name in names] != vectors():
-            sys.exit("crates/cutter/stdin and stdout are not as written by tests/cutting.py")
-        print("cutting: the vectors are as written")
+        if [open(name, encoding="ascii").read() for name in names] != vectors() + [answer_lines()]:
+            sys.exit("crates/cutter/stdin, stdout or examples/answer.expected is not as written by tests/cutting.py")
+        print("cutting: the vectors, and what the examples print, are as written")
 
 
 if __name__ == "__main__":

@@ -6,3 +6,5 @@ pub mod Tiling
 pub mod Backs
 pub mod Trips
 pub mod Examples
+pub mod Cuttings
+pub mod Unique
