@@ -18,3 +18,6 @@ pub mod Witness
 pub mod Sent
 pub mod SentParts
 pub mod SentRuns
+pub mod SentApart
+pub mod SentLibrary
+pub mod SentWitness

@@ -42,10 +42,10 @@ map-in f (y ∷ ys) x (inr i) = inr (map-in f ys x i)
 
 -- ---- pieces one after the other
 module _ (d : List ℕ) where
-  abbrev Some : Piece → Type 0
+  abbrev pub Some : Piece → Type 0
   Some x = startOf x < endOf d x
 
-  chain-least : (xs : List Piece) (b : ℕ) (p : Piece) → Chain d b xs → Each Some xs → In p xs → b ≤ startOf p
+  pub chain-least : (xs : List Piece) (b : ℕ) (p : Piece) → Chain d b xs → Each Some xs → In p xs → b ≤ startOf p
   chain-least [] b p c e i = absurd i
   chain-least (y ∷ ys) b p c e (inl q) = rw q (omega (arith, c .0))
   chain-least (y ∷ ys) b p c e (inr i) = omega (arith, c .0, e .0, chain-least ys (endOf d y) p (c .1) (e .1) i)

@@ -3,14 +3,13 @@
 use Prim.Native.Nat.{ℕ, _+_, _-_, _*_, _≤_, _<_}
 use native.Mathlib.Omega.{arith}
 use mathlib.Core.List.{List, [], _∷_, _++_, map}
-use mathlib.Core.Bool.{Bool, true, false, _||_}
+use mathlib.Core.Bool.{true}
 use mathlib.Core.Logic.{_⊎_, inl, inr}
 use mathlib.Core.Path.{_≡_, refl, sym, ap, subst, _∙_}
 use lib.Dec.{ltb, leb}
 use lib.ListN.{length, drop}
 use borrow.Author.Tests.{le-leb, le-ltb}
-use Rattle.octets.specs.Read.{Answer, is, refused, choose}
-use Rattle.octets.proofs.Spans.{not-refused}
+use Rattle.octets.specs.Read.{is}
 use Rattle.expand.proofs.SumLaws.{Bytes}
 use Rattle.reassembly.specs.Cover.{In, Has, Covers}
 use Rattle.reassembly.specs.Fresh.{begun}
@@ -25,14 +24,13 @@ use Rattle.reassembly.proofs.Runs.{comes-brought, comes-part}
 use Rattle.receiver.specs.Names.{named}
 use Rattle.receiver.specs.Receive.{frameCall, callOf}
 use Rattle.receiver.proofs.Names.{frame-part, call-part}
-use Rattle.cutting.specs.Fields.{isOurs}
 use Rattle.cutting.specs.Head.{macLength, headLength, covers}
 use Rattle.cutting.specs.Pieces.{wholeLength, pieces}
-use Rattle.cutting.specs.Cut.{planOf, frameOf, inRange, hasBoth, cut}
+use Rattle.cutting.specs.Cut.{planOf, frameOf, cut}
 use Rattle.cutting.specs.declared.link.Link.{Link}
 use Rattle.cutting.specs.declared.piece.Piece.{Piece}
 use Rattle.cutting.specs.declared.piece.Piece.the-variants.{Whole, First, Later}
-use Rattle.cutting.proofs.WriteLaws.{in-range}
+use Rattle.cutting.proofs.Cuttings.{cut-was, cut-ready}
 use Rattle.cutting.proofs.Tiling.{Each, pieces-each, startOf, endOf, pieces-chain}
 use Rattle.promises.specs.Runs.{came}
 use Rattle.promises.specs.Frames.{Turn, callIn, Ran, endOf as endsAt, meant, Brings, partsOf, Supposed, Concluded}
@@ -44,28 +42,10 @@ use Rattle.promises.proofs.Sent.{Cuts, frames-bring}
 use Rattle.promises.proofs.SentParts.{each-in, in-map, map-in, Stands, stands, each-some, all-stand, fits-is, chain-apart, parts-cut}
 
 -- ---- what a cutting says: nothing was refused
-record Was (l : Link) (d : List ℕ) (fs : List (List ℕ)) : Type 0 where
-  pub range : inRange l d ≡ true
-  pub both : hasBoth l ≡ true
-  pub ours : isOurs d ≡ true
-  pub frames : fs ≡ map (frameOf l d) (pieces (planOf l d))
-
-cut-go : {A : Type 0} (a b c : Bool) (x y : A) → choose a (choose b (choose c (is x) (refused 16)) (refused 6)) (refused 4) ≡ is y → (a ≡ true) × (b ≡ true) × (c ≡ true) × (y ≡ x)
-cut-go true true true x y e = (refl, refl, refl, cc)
-cut-go true true false x y e = not-refused y 16 e
-cut-go true false c x y e = not-refused y 6 e
-cut-go false b c x y e = not-refused y 4 e
-
-cut-was : (l : Link) (d : List ℕ) (fs : List (List ℕ)) → cut l d ≡ is fs → Was l d fs
-unfolding cut
-cut-was l d fs e =
-    let w = cut-go (inRange l d) (hasBoth l) (isOurs d) (map (frameOf l d) (pieces (planOf l d))) fs e in
-    record { range = w .0; both = w .1; ours = w .2; frames = w .3 }
-
 pub cuts : (l : Link) (d : List ℕ) (fs : List (List ℕ)) → Bytes d → cut l d ≡ is fs → Cuts l d
 cuts l d fs b e =
     let w = cut-was l d fs e in
-    record { bytes = b; ready = in-range l d (inRange l d) refl (w .range); both = w .both; ours = w .ours }
+    record { bytes = b; ready = cut-ready l d fs e; both = w .both; ours = w .ours }
 
 -- ---- what a call brings came
 came-has : (gs : List Source) (m : List ℕ) (k : Key) (hs : List Turn) (h : Turn) (p : Part) → In h hs → Brings gs m h p → p .key ≡ k → fits p ≡ true → In p (came k (map (meant gs m) hs))
@@ -81,7 +61,7 @@ module _ (gs : List Source) (m : List ℕ) (l : Link) (d : List ℕ) (fs : List 
   abbrev ps : List Piece
   ps = pieces (planOf l d)
 
-  K : Cuts l d
+  abbrev K : Cuts l d
   K = cuts l d fs b e
 
   frames-are : fs ≡ map (frameOf l d) ps
@@ -143,7 +123,7 @@ module _ (gs : List Source) (m : List ℕ) (l : Link) (d : List ℕ) (fs : List 
       H .new h n (f ∙ ap (frameOf l d) g ∙ sym q)
 
   -- what demand 3 supposes
-  sent-supposed : Supposed gs m (keyFor l d) d (parts-cut l d (K .ready)) past mid c
+  pub sent-supposed : Supposed gs m (keyFor l d) d (parts-cut l d (K .ready)) past mid c
   unfolding parts-cut
   sent-supposed = record {
     gateways = H .gateways;
@@ -185,7 +165,7 @@ module _ (σ : State) (l : Link) (d : List ℕ) (fs : List (List ℕ)) (b : Byte
       ap (frameCall (gatesOf (σ .table)) (h .contexts) (h .time)) whole-frame
       ∙ each-in (λ z. frameCall (gatesOf (σ .table)) (h .contexts) (h .time) (frameOf l d z) ≡ callFor l d (h .time) z) (pieces (planOf l d)) Whole E (rw (one-piece l d one) (inl refl))
 
-  whole-reply : (step σ (callIn σ h)) .reply ≡ out d
+  pub whole-reply : (step σ (callIn σ h)) .reply ≡ out d
   unfolding callIn callOf lentCall step pass
   whole-reply = rw (le-ltb (length (σ .mem)) 16384 enough, le-ltb (length (h .before)) 2047 room, whole-call, le-ltb (h .time) (σ .table .last) time) refl
 

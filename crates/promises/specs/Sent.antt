@@ -3,20 +3,22 @@ use Prim.Native.Nat.{ℕ, _+_, _/_, _≤_, _<_}
 use mathlib.Core.Path.{_≡_}
 use mathlib.Core.Bool.{true, false}
 use mathlib.Core.List.{List, [], _∷_, _++_}
-use lib.ListN.{length, take, drop}
+use lib.ListN.{length, take, drop, replicate}
 use Rattle.octets.specs.Read.{is}
 use Rattle.reassembly.specs.Slots.{nodeOf, sourceOf, isGate}
 use Rattle.reassembly.specs.Cover.{In}
 use Rattle.reassembly.specs.Fresh.{Gateways}
 use Rattle.reassembly.specs.Parts as Parts
-use Rattle.reassembly.specs.Parts.{Part, partOf}
+use Rattle.reassembly.specs.Parts.{Part, partOf, told, outputAfter}
 use Rattle.reassembly.specs.Table as Table
-use Rattle.reassembly.specs.Table.{Call, other}
+use Rattle.reassembly.specs.Table.{Call, other, State, Result}
 use Rattle.reassembly.specs.declared.slot.Key.{Key}
 use Rattle.reassembly.specs.declared.slot.Source.{Source}
 use Rattle.ieee802154.specs.declared.addr.PanField.{PanField}
 use Rattle.receiver.specs.Names.{named}
-use Rattle.promises.specs.Frames.{Turn, Forward}
+use Rattle.lift.specs.Face.{packed, received}
+use Rattle.promises.specs.Frames.{Turn, Forward, left}
+use Rattle.promises.specs.Library.{LiftTurn, asTurn}
 use Rattle.cutting.specs.Head.{covers}
 use Rattle.cutting.specs.declared.link.Link.{Link}
 use Rattle.cutting.specs.declared.piece.Piece.{Piece}
@@ -64,3 +66,30 @@ pub record SentSupposed (gs : List Source) (m : List ℕ) (l : Link) (d : List �
   pub new : (h : Turn) → In h mid → h .frame ≡ c .frame → ⊥
   -- less than 60 seconds after the earliest
   pub soon : c .time < first .time + 60000
+
+-- no two of them are equal
+abbrev pub Distinct : {A : Type 0} → List A → Type 0
+Distinct [] = Unit {0}
+Distinct (x ∷ xs) = (In x xs → ⊥) × Distinct xs
+
+-- ---- frames fed to the library, as its definitions have it: one after the other to a table and a memory, at the time 0, without contexts, with an
+-- output of 2,047 zeros each
+abbrev pub fedResult : State → List ℕ → Result
+fedResult σ f = received (σ .table) 0 f [] (σ .mem) (replicate 2047 0)
+
+abbrev pub fedTurn : State → List ℕ → LiftTurn
+fedTurn σ f =
+    record {
+      time = 0;
+      frame = f;
+      contexts = [];
+      before = replicate 2047 0;
+      answer = packed (told (fedResult σ f .reply));
+      table = fedResult σ f .state .table;
+      memory = fedResult σ f .state .mem;
+      output = outputAfter (fedResult σ f .reply) (replicate 2047 0);
+    }
+
+unfoldable pub fed : State → List (List ℕ) → List LiftTurn
+fed σ [] = []
+fed σ (f ∷ fs) = fedTurn σ f ∷ fed (left (asTurn (fedTurn σ f))) fs
