@@ -159,6 +159,40 @@ lift_len lift_free(const lift_table *t);
 /* How many slots the gateway of this kind, with its PAN, and value holds, 0 to 3; 0 for anything that is no gateway. */
 lift_len lift_held(const lift_table *t, uint64_t kind, uint64_t value);
 
+/* ---- Sending: a datagram of our own, cut into frames
+ *
+ * What every frame of the cutting says beside the datagram is a list of eight numbers:
+ *
+ *   0     the PAN (its low 16 bits)
+ *   1, 2  the source address: kind and value, as for gateways
+ *   3, 4  the destination address
+ *   5     the sequence number (its low 8 bits), the same in every frame
+ *   6     the datagram's tag (its low 16 bits); another for each datagram that may be under way between the two. A datagram that
+ *         goes in one frame does not use it
+ *   7     the longest frame, without its frame check: 80 to 127 bytes
+ *
+ * A number that is missing is 0, and numbers past the eighth are not looked at. Frames are Data frames of version 0 with the PAN
+ * compressed; the datagram goes in one frame where one suffices, else in parts as long as the limit allows. The answers are put
+ * together as lift_receive's:
+ *
+ *   LIFT_OUT      N    lift_cut: frame k, N bytes long, stands at the start of out, and the rest of out is as it was;
+ *                      lift_frames: the datagram goes in N frames
+ *   LIFT_REFUSED  R    out is as it was, to the last byte. In this order:
+ *                      4   a datagram of below 40 or over 2,047 bytes, or a limit below 80 or over 127
+ *                      6   an address that is none
+ *                      16  the version is not 6, the payload length is not that of the bytes, or traffic class or flow label is not 0
+ *                      10  k is the number of frames or more (lift_cut only)
+ *                      7   out is shorter than the frame (lift_cut only); 127 bytes are always enough
+ *
+ * Neither call has a state: k can be asked for in any order and again. What is proved: handed to lift_receive in any order, each at
+ * least once, as docs/PROMISES.md says, the frames give the same datagram; frames are counted from 0.
+ * Rule 2 holds here too: out is apart from datagram and link. */
+#define LIFT_LINK_NUMBERS 8u
+#define LIFT_FRAME_BYTES 127u
+uint32_t lift_frames(const uint8_t *datagram, size_t datagram_len, const uint64_t *link, size_t numbers);
+uint32_t lift_cut(const uint8_t *datagram, size_t datagram_len, const uint64_t *link, size_t numbers, uint16_t k, uint8_t *out,
+                  size_t out_len);
+
 #ifdef __cplusplus
 }
 #endif

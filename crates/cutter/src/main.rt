@@ -1,8 +1,9 @@
-// Answers what a datagram is cut into: one line on standard input, one answer a line on standard output (tests/README.md has the
-// protocol). A line that starts with `#` is answered by itself, one that is no command by `bad`, one that does not fit the input by
-// `bad long`.
+// Answers what a datagram is cut into: one line on standard input, one answer a line on standard output
+// (tests/README.md has the protocol). A line that starts with `#` is answered by itself, one that is no command by
+// `bad`, one that does not fit the input by `bad long`.
 //
-// - `commands`: what the lines `cut` and `frames` do. `fields`: what they say beside the datagram. `room`: what a frame is written into.
+// - `commands`: what the lines `cut` and `frames` do.
+// - `fields`: what they say beside the datagram. `room`: what a frame is written into.
 mod commands;
 mod fields;
 mod room;
@@ -14,8 +15,9 @@ use text::print;
 // What an answer takes at most beyond the line itself: the largest room in hexadecimal and a few words.
 const LONGEST: usize = 33000;
 
-// The input that is read and not answered yet stands from `start` to `have`; no line ends before `from`. The beginning of a line
-// that was too long is gone and answered: the rest of it is to be skipped. Then the place in the output, and whether to go on.
+// The input that is read and not answered yet stands from `start` to `have`; no line ends before `from`. The
+// beginning of a line that was too long is gone and answered: the rest of it is to be skipped. Then the place in
+// the output, and whether to go on.
 struct Progress {
     start: usize,
     from: usize,
@@ -92,8 +94,8 @@ fn too_long(skip: bool) -> Progress {
     Progress::STOPPED
 }
 
-// Reads more behind the first `n` bytes of the input, which hold no end of a line. Where nothing comes any more, the last line gets
-// the end that it lacks.
+// Reads more behind the first `n` bytes of the input, which hold no end of a line. Where nothing comes any more,
+// the last line gets the end that it lacks.
 fn read_on(input: &mut [u8], n: usize, skip: bool) -> Progress {
     if input.len() <= n {
         return Progress::STOPPED;

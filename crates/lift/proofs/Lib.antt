@@ -3,3 +3,4 @@ pub mod Lengths
 pub mod ByValue
 pub mod InPlace
 pub mod Items
+pub mod Sending

@@ -4,6 +4,10 @@
 // What each number means is in specs/Face.antt; the answer, the table and every lent byte after a call are those of the slot
 // table's `step`, as for the by-value call `receiver::receive`. The table is changed in place, in three turns (specs/InPlace.antt):
 // `lift_receive` takes the time, `receive_timed` reads the frame, `take` brings its part to a slot.
+//
+// - `send`: what we send, `lift_cut` and `lift_frames`.
+pub mod send;
+
 ghost use mathlib.Core.Path.{_≡_};
 ghost use Prim.Native.Nat.{_<_, _≤_};
 ghost use lib.ListN.{length, take};
