@@ -9,10 +9,10 @@ use Rattle.octets.specs.Read.{is}
 use Rattle.expand.proofs.SumLaws.{Bytes}
 use Rattle.reassembly.specs.Cover.{In}
 use Rattle.reassembly.specs.Lists.{count}
-use Rattle.reassembly.specs.Slots.{nodeOf, sameNode, isGate}
+use Rattle.reassembly.specs.Slots.{sameSource, isGate}
 use Rattle.reassembly.specs.Table.{Call, part, other, short}
-use Rattle.reassembly.specs.declared.slot.Node.{Node}
-use Rattle.reassembly.proofs.Slots.{sameNode-refl}
+use Rattle.reassembly.specs.declared.slot.Source.{Source}
+use Rattle.reassembly.proofs.Slots.{sameSource-refl}
 use Rattle.receiver.specs.Receive.{frameCall}
 use Rattle.cutting.specs.Pieces.{pieces}
 use Rattle.cutting.specs.Cut.{planOf, frameOf, cut}
@@ -21,15 +21,15 @@ use Rattle.cutting.specs.declared.piece.Piece.{Piece}
 use Rattle.cutting.specs.declared.piece.Piece.the-variants.{Whole, First, Later}
 use Rattle.cutting.proofs.Tiling.{Each, startOf, endOf, Chain, pieces-chain}
 use Rattle.cutting.proofs.Cuttings.{cut-was}
-use Rattle.promises.specs.Sent.{callFor, Distinct}
+use Rattle.promises.specs.Sent.{sender, callFor, Distinct}
 use Rattle.promises.proofs.Sent.{Cuts, frames-bring}
 use Rattle.promises.proofs.SentParts.{each-in, in-map, Some, chain-least, Stands, stands, each-some, all-stand}
 use Rattle.promises.proofs.SentRuns.{cuts}
 
 -- a table that lists g alone lists it
-alone : (g : Node) → isGate g (g ∷ []) ≡ true
+alone : (g : Source) → isGate g (g ∷ []) ≡ true
 unfolding isGate count
-alone g = rw (sameNode-refl g) refl
+alone g = rw (sameSource-refl g) refl
 
 -- where what comes begins
 abbrev beginsAt : Call → ℕ
@@ -46,14 +46,14 @@ module _ (l : Link) (d : List ℕ) (K : Cuts l d) where
   abbrev ps : List Piece
   ps = pieces (planOf l d)
 
-  told : (x : Piece) → In x ps → beginsAt (frameCall (nodeOf (l .src) ∷ []) [] 0 (frameOf l d x)) ≡ startOf x
+  told : (x : Piece) → In x ps → beginsAt (frameCall (sender l ∷ []) [] 0 (frameOf l d x)) ≡ startOf x
   told x i =
-      let E = frames-bring l d K (nodeOf (l .src) ∷ []) (alone (nodeOf (l .src))) [] 0 in
-      ap beginsAt (each-in (λ z. frameCall (nodeOf (l .src) ∷ []) [] 0 (frameOf l d z) ≡ callFor l d 0 z) ps x E i)
+      let E = frames-bring l d K (sender l ∷ []) (alone (sender l)) [] 0 in
+      ap beginsAt (each-in (λ z. frameCall (sender l ∷ []) [] 0 (frameOf l d z) ≡ callFor l d 0 z) ps x E i)
       ∙ begins-told l d x (stands l d (K .ready) x i)
 
   same : (x y : Piece) → In x ps → In y ps → frameOf l d x ≡ frameOf l d y → startOf x ≡ startOf y
-  same x y i j e = sym (told x i) ∙ ap (λ f. beginsAt (frameCall (nodeOf (l .src) ∷ []) [] 0 f)) e ∙ told y j
+  same x y i j e = sym (told x i) ∙ ap (λ f. beginsAt (frameCall (sender l ∷ []) [] 0 f)) e ∙ told y j
 
   apart : (xs : List Piece) (b : ℕ) → Chain d b xs → Each (Some d) xs → ((x : Piece) → In x xs → In x ps) → Distinct (map (frameOf l d) xs)
   apart [] b c e s = tt

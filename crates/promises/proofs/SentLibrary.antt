@@ -12,9 +12,9 @@ use Rattle.reassembly.specs.Cover.{In}
 use Rattle.reassembly.specs.Fresh.{Gateways, fresh, begun}
 use Rattle.reassembly.specs.Lists.{count}
 use Rattle.reassembly.specs.Parts.{Reply, out, told}
-use Rattle.reassembly.specs.Slots.{nodeOf, owner, freeSlot, isOf, gatesOf, isGate, held}
+use Rattle.reassembly.specs.Slots.{owner, freeSlot, isOf, gatesOf, isGate, held}
 use Rattle.reassembly.specs.Table.{State, step}
-use Rattle.reassembly.specs.declared.slot.Node.{Node}
+use Rattle.reassembly.specs.declared.slot.Source.{Source}
 use Rattle.cutting.specs.Head.{macLength, headLength, covers}
 use Rattle.cutting.specs.Cut.{cut}
 use Rattle.cutting.specs.declared.link.Link.{Link}
@@ -22,7 +22,7 @@ use Rattle.cutting.proofs.Cuttings.{cut-ready}
 use Rattle.lift.specs.Face.{packed, Answers, received}
 use Rattle.promises.specs.Frames.{Turn, Forward, callIn, left, endOf}
 use Rattle.promises.specs.Library.{LiftTurn, asTurn, RanIn, ConcludedIn}
-use Rattle.promises.specs.Sent.{keyFor, SentSupposed, fedTurn, fed}
+use Rattle.promises.specs.Sent.{sender, keyFor, SentSupposed, fedTurn, fed}
 use Rattle.promises.proofs.Engine.{In-left, In-right}
 use Rattle.promises.proofs.Frames.{out-front}
 use Rattle.promises.proofs.Library.{lift-demand-3}
@@ -31,8 +31,8 @@ use Rattle.promises.proofs.SentRuns.{cuts, sent-supposed, whole-reply}
 use Rattle.promises.proofs.SentApart.{frames-apart}
 
 -- ---- a datagram in more than one frame
-module _ (gs : List Node) (m : List ℕ) (l : Link) (d : List ℕ) (fs : List (List ℕ)) (b : Bytes d) (e : cut l d ≡ is fs) (more : l .limit < macLength l + (headLength l d + (length d - covers d))) where
-  -- "these frames in any order, each at least once, fed as demand 3 asks to a table that lists the source address, hand out the same datagram"
+module _ (gs : List Source) (m : List ℕ) (l : Link) (d : List ℕ) (fs : List (List ℕ)) (b : Bytes d) (e : cut l d ≡ is fs) (more : l .limit < macLength l + (headLength l d + (length d - covers d))) where
+  -- "these frames in any order, each at least once, fed as demand 3 asks to a table that lists the source with its PAN, hand out the same datagram"
   pub lift-sent-handed-out : (past mid : List LiftTurn) (c : LiftTurn) → SentSupposed gs m l d fs (map asTurn past) (map asTurn mid) (asTurn c)
       → RanIn (begun gs m) (past ++ (mid ++ (c ∷ []))) → held (owner (keyFor l d)) (endOf (begun gs m) (map asTurn past) .table .slots) ≡ 0 → ConcludedIn (keyFor l d) d mid c
   lift-sent-handed-out past mid c H R z =
@@ -40,7 +40,7 @@ module _ (gs : List Node) (m : List ℕ) (l : Link) (d : List ℕ) (fs : List (L
       (sent-supposed gs m l d fs b e more (map asTurn past) (map asTurn mid) (asTurn c) H) R z
 
 -- ---- a datagram in one frame, whatever the table σ holds
-module _ (σ : State) (l : Link) (d : List ℕ) (fs : List (List ℕ)) (b : Bytes d) (e : cut l d ≡ is fs) (one : macLength l + (headLength l d + (length d - covers d)) ≤ l .limit) (lists : isGate (nodeOf (l .src)) (gatesOf (σ .table)) ≡ true) (enough : 16384 ≤ length (σ .mem)) (h : LiftTurn) (sent : In (h .frame) fs) (time : σ .table .last ≤ h .time) (room : 2047 ≤ length (h .before)) where
+module _ (σ : State) (l : Link) (d : List ℕ) (fs : List (List ℕ)) (b : Bytes d) (e : cut l d ≡ is fs) (one : macLength l + (headLength l d + (length d - covers d)) ≤ l .limit) (lists : isGate (sender l) (gatesOf (σ .table)) ≡ true) (enough : 16384 ≤ length (σ .mem)) (h : LiftTurn) (sent : In (h .frame) fs) (time : σ .table .last ≤ h .time) (room : 2047 ≤ length (h .before)) where
   pub lift-whole-handed-out : Answers (h .answer) (h .table) (h .memory) (h .before) (h .output) (received (σ .table) (h .time) (h .frame) (h .contexts) (σ .mem) (h .before))
       → (h .answer ≡ 65536 + length d) × (h .output ≡ d ++ drop (length d) (h .before))
   unfolding received callIn
@@ -61,7 +61,7 @@ unfolding fed endOf
 fed-then [] y σ = refl
 fed-then (x ∷ xs) y σ = ap (λ z. fedTurn σ x ∷ z) (fed-then xs y (left (asTurn (fedTurn σ x))))
 
-fresh-held : (g : Node) (gs : List Node) → held g (fresh gs .slots) ≡ 0
+fresh-held : (g : Source) (gs : List Source) → held g (fresh gs .slots) ≡ 0
 unfolding fresh held count isOf freeSlot
 fresh-held g gs = refl
 
@@ -104,8 +104,8 @@ in-split a (x ∷ xs) ys (inr i) = go (in-split a xs ys i)
     go (inr j) = inr j
 
 -- the frames ys, of which x is none, then x: all of the cutting, in any order, some of them more than once
-module _ (gs : List Node) (m : List ℕ) (l : Link) (d : List ℕ) (fs : List (List ℕ)) (b : Bytes d) (e : cut l d ≡ is fs) (more : l .limit < macLength l + (headLength l d + (length d - covers d)))
-    (W : Gateways gs) (lists : isGate (nodeOf (l .src)) gs ≡ true) (enough : 16384 ≤ length m)
+module _ (gs : List Source) (m : List ℕ) (l : Link) (d : List ℕ) (fs : List (List ℕ)) (b : Bytes d) (e : cut l d ≡ is fs) (more : l .limit < macLength l + (headLength l d + (length d - covers d)))
+    (W : Gateways gs) (lists : isGate (sender l) gs ≡ true) (enough : 16384 ≤ length m)
     (ys : List (List ℕ)) (x : List ℕ) (only : (y : List ℕ) → In y ys → In y fs) (last : In x fs) (new : In x ys → ⊥) (each : (f : List ℕ) → In f fs → In f ys ⊎ (f ≡ x)) where
   abbrev σ₀ : State
   σ₀ = begun gs m
@@ -169,7 +169,7 @@ module _ (gs : List Node) (m : List ℕ) (l : Link) (d : List ℕ) (fs : List (L
   unfolding endOf fresh
   fed-whole =
       lift-sent-handed-out gs m l d fs b e more [] mid end supposed (subst (RanIn σ₀) (fed-then ys x σ₀) (fed-ran (ys ++ (x ∷ [])) σ₀))
-      (fresh-held (nodeOf (l .src)) gs)
+      (fresh-held (sender l) gs)
 
 -- ---- backwards, the last frame first
 turned : {A : Type 0} (a : A) (xs r : List A) → In a (reverseAux xs r) → In a xs ⊎ In a r
@@ -195,8 +195,8 @@ in-reverse a xs i = go (turned a xs [] i)
     go (inl j) = j
     go (inr j) = absurd j
 
-module _ (gs : List Node) (m : List ℕ) (l : Link) (d f : List ℕ) (rest : List (List ℕ)) (b : Bytes d) (e : cut l d ≡ is (f ∷ rest)) (more : l .limit < macLength l + (headLength l d + (length d - covers d)))
-    (W : Gateways gs) (lists : isGate (nodeOf (l .src)) gs ≡ true) (enough : 16384 ≤ length m) where
+module _ (gs : List Source) (m : List ℕ) (l : Link) (d f : List ℕ) (rest : List (List ℕ)) (b : Bytes d) (e : cut l d ≡ is (f ∷ rest)) (more : l .limit < macLength l + (headLength l d + (length d - covers d)))
+    (W : Gateways gs) (lists : isGate (sender l) gs ≡ true) (enough : 16384 ≤ length m) where
   pub fed-backwards : ConcludedIn (keyFor l d) d (fed (begun gs m) (reverse rest)) (fedTurn (endOf (begun gs m) (map asTurn (fed (begun gs m) (reverse rest)))) f)
   fed-backwards =
       fed-whole gs m l d (f ∷ rest) b e more W lists enough (reverse rest) f

@@ -11,13 +11,14 @@ use Rattle.octets.specs.Read.{is, byte, be16, be32, be64}
 use Rattle.octets.proofs.Steps.{and-true}
 use Rattle.ieee802154.specs.Mac.{lengthOf as macLengthOf}
 use Rattle.ieee802154.specs.declared.addr.Address.the-variants.{Short}
+use Rattle.ieee802154.specs.declared.addr.PanField.{PanField}
 use Rattle.sixlowpan.specs.NhcUdp.{formOf}
 use Rattle.iphc.specs.Emit.{iidForm, srcForm, dstForm, multicastForm, lengthOf}
 use Rattle.expand.proofs.SumLaws.{Bytes, bytes-nil, bytes-cons}
 use Rattle.reassembly.specs.Fresh.{Gateways, begun}
 use Rattle.reassembly.specs.Lists.{bit, count, those}
-use Rattle.reassembly.specs.Slots.{nodeOf, sameNode, present, isGate}
-use Rattle.reassembly.specs.declared.slot.Node.{Node}
+use Rattle.reassembly.specs.Slots.{sourceOf, sameNode, sameSource, addressed, present, isGate}
+use Rattle.reassembly.specs.declared.slot.Source.{Source}
 use Rattle.cutting.specs.Fields.{isOurs, isUdp}
 use Rattle.cutting.specs.Head.{macLength, headLength, covers, nextOf, ipOf, udpOf, udpPartLength}
 use Rattle.cutting.specs.Pieces.{pieceFrom, laterPieces, wholeLength, firstPart, laterRoom, pieces}
@@ -44,8 +45,11 @@ block =
 abbrev pub over : ℕ → Link
 over n = record { pan = record { 0 = 0xabcd }; src = Short 1; dst = Short 2; sequence = 5; tag = 7; limit = n }
 
-abbrev pub gate : List Node
-gate = nodeOf (Short 1) ∷ []
+abbrev pub here : Source
+here = sourceOf (Short 1) (PanField.Some (record { 0 = 0xabcd }))
+
+abbrev pub gate : List Source
+gate = here ∷ []
 
 -- ---- what is computed
 abbrev small : List ℕ → Bool
@@ -100,16 +104,16 @@ bit-most : (t : Bool) → bit t + 0 ≤ 1
 bit-most true = omega arith
 bit-most false = omega arith
 
-gate-once : (g : Node) → count (sameNode g) gate ≤ 1
+gate-once : (g : Source) → count (sameSource g) gate ≤ 1
 unfolding count
-gate-once g = bit-most (sameNode g (nodeOf (Short 1)))
+gate-once g = bit-most (sameSource g here)
 
 gate-good : Gateways gate
-unfolding those present
+unfolding those addressed present
 gate-good = record { four = omega arith; seated = refl; distinct = gate-once }
 
-gate-lists : isGate (nodeOf (Short 1)) gate ≡ true
-unfolding isGate count sameNode
+gate-lists : isGate here gate ≡ true
+unfolding isGate count sameNode sameSource
 gate-lists = refl
 
 -- ---- backwards: the frames of `later`, the last one first, and then the first part
