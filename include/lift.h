@@ -108,7 +108,8 @@ static inline uint32_t lift_kind(uint32_t answer) { return answer >> 16; }
 static inline uint32_t lift_number(uint32_t answer) { return answer & 0xffffu; }
 
 /* The reasons of a refusal: the product's numbers, each with its name. docs/REFUSALS.md says what usually causes each and what
- * to do. lift_receive gives 1 to 13, lift_begin 14; the others belong to calls that are not in this header. */
+ * to do. lift_receive gives 1 to 13, lift_begin 14, lift_cut and lift_frames 4, 6, 7, 10 and 16; the others belong to calls that are not in
+ * this header. */
 enum lift_refusal {
   LIFT_ENDED = 1,           /* the bytes end before a needed field */
   LIFT_NOT_THIS_HEADER = 2, /* the leading bits are not this header's: not 6LoWPAN, or a dispatch that is not taken here */
@@ -164,7 +165,7 @@ lift_len lift_held(const lift_table *t, uint64_t kind, uint64_t value);
  * What every frame of the cutting says beside the datagram is a list of eight numbers:
  *
  *   0     the PAN (its low 16 bits)
- *   1, 2  the source address: kind and value, as for gateways
+ *   1, 2  the source address: LIFT_SHORT or LIFT_EXTENDED, and the address
  *   3, 4  the destination address
  *   5     the sequence number (its low 8 bits), the same in every frame
  *   6     the datagram's tag (its low 16 bits); another for each datagram that may be under way between the two. A datagram that
@@ -189,9 +190,9 @@ lift_len lift_held(const lift_table *t, uint64_t kind, uint64_t value);
  * Rule 2 holds here too: out is apart from datagram and link. */
 #define LIFT_LINK_NUMBERS 8u
 #define LIFT_FRAME_BYTES 127u
-uint32_t lift_frames(const uint8_t *datagram, size_t datagram_len, const uint64_t *link, size_t numbers);
-uint32_t lift_cut(const uint8_t *datagram, size_t datagram_len, const uint64_t *link, size_t numbers, uint16_t k, uint8_t *out,
-                  size_t out_len);
+uint32_t lift_frames(const uint8_t *datagram, lift_len datagram_len, const uint64_t *link, lift_len numbers);
+uint32_t lift_cut(const uint8_t *datagram, lift_len datagram_len, const uint64_t *link, lift_len numbers, uint16_t k, uint8_t *out,
+                  lift_len out_len);
 
 #ifdef __cplusplus
 }

@@ -222,7 +222,7 @@ def run(program, count, seed):
 # ------------------------------------------------------------------------------- what is cut, through the other reading
 
 def whole(count, seed):
-    """02: "these frames in any order, each at least once, fed as demand 3 asks to a table that lists the source address, hand out the
+    """02: "these frames in any order, each at least once, fed as demand 3 asks to a table that lists the source (with PAN), hand out the
     same datagram", for both readings here; every frame at most the limit, none equal to another, each part as long as can be."""
     rng, came = random.Random(seed), 0
     for number in range(count):
@@ -237,7 +237,7 @@ def whole(count, seed):
         assert all(len(one) > limit - 8 for one in made[:-1])
         order = made + [rng.choice(made) for _ in range(rng.randrange(4))]
         rng.shuffle(order)
-        table = model.Table([src])
+        table = model.Table([(src, 0xabcd)])
         left, mem, out = set(made), bytearray(16384), bytearray(2047)
         for time, one in enumerate(order):
             answered = table.call(time, one, b"", mem, out)

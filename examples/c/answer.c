@@ -15,7 +15,9 @@ static uint8_t mem[LIFT_MEM_BYTES];
 static uint8_t out[LIFT_OUT_BYTES];
 static const uint8_t no_contexts[1];
 
-static const uint64_t ours[] = {LIFT_SHORT, 0x0001}, ours_extended[] = {LIFT_EXTENDED, 0x0011223344556677};
+/* Our addresses, and the PAN of both controllers. */
+static const lift_gateway ours = {LIFT_SHORT, 0x0001}, ours_extended = {LIFT_EXTENDED, 0x0011223344556677};
+#define PAN 0xabcd
 
 /* UDP from fe80::ff:fe00:1 to fe80::ff:fe00:2, of `size` bytes in all, with its checksum (RFC 768, RFC 8200 8.1). */
 static void write_datagram(size_t size) {
@@ -45,11 +47,12 @@ static void write_datagram(size_t size) {
 }
 
 /* Sends a datagram of `size` bytes from the address `from` in frames of at most `limit` bytes, and says how it went. */
-static int answer(size_t size, const uint64_t from[2], uint64_t tag, uint64_t limit) {
-  const uint64_t link[LIFT_LINK_NUMBERS] = {0xabcd, from[0], from[1], LIFT_SHORT, 0x0002, 5, tag, limit};
+static int answer(size_t size, lift_gateway from, uint64_t tag, uint64_t limit) {
+  const lift_gateway listed = {LIFT_IN(from.kind, PAN), from.value};
+  const uint64_t link[LIFT_LINK_NUMBERS] = {PAN, from.kind, from.value, LIFT_SHORT, 0x0002, 5, tag, limit};
   write_datagram(size);
   memset(&table, 0, sizeof table);
-  if (lift_begin(&table, from, 2) != 0) return 1;
+  if (lift_begin(&table, &listed, 1) != 0) return 1;
   uint32_t count = lift_frames(datagram, size, link, LIFT_LINK_NUMBERS), last = 0;
   if (lift_kind(count) != LIFT_OUT) return 1;
   printf("%u bytes, at most %u: %u frames", (unsigned)size, (unsigned)limit, (unsigned)lift_number(count));
@@ -67,7 +70,7 @@ static int answer(size_t size, const uint64_t from[2], uint64_t tag, uint64_t li
 }
 
 int main(void) {
-  const uint64_t nobody[LIFT_LINK_NUMBERS] = {0xabcd, 0, 0, LIFT_SHORT, 0x0002, 5, 1, 127};
+  const uint64_t nobody[LIFT_LINK_NUMBERS] = {PAN, 0, 0, LIFT_SHORT, 0x0002, 5, 1, 127};
   if (answer(60, ours, 1, 127) || answer(257, ours, 2, 127) || answer(1280, ours, 3, 127) || answer(1280, ours_extended, 4, 80) ||
       answer(2047, ours_extended, 5, 81)) {
     printf("; not so\n");
@@ -76,7 +79,7 @@ int main(void) {
   uint32_t refused = lift_frames(datagram, 2047, nobody, LIFT_LINK_NUMBERS);
   printf("from nobody: no %u\n", lift_kind(refused) == LIFT_REFUSED ? (unsigned)lift_number(refused) : 0);
   datagram[0] = 0x45;
-  const uint64_t link[LIFT_LINK_NUMBERS] = {0xabcd, LIFT_SHORT, 0x0001, LIFT_SHORT, 0x0002, 5, 6, 127};
+  const uint64_t link[LIFT_LINK_NUMBERS] = {PAN, LIFT_SHORT, 0x0001, LIFT_SHORT, 0x0002, 5, 6, 127};
   refused = lift_frames(datagram, 2047, link, LIFT_LINK_NUMBERS);
   printf("IPv4: no %u\n", lift_kind(refused) == LIFT_REFUSED ? (unsigned)lift_number(refused) : 0);
   return 0;

@@ -11,11 +11,11 @@ mod lift {
 
     #[repr(C)]
     struct Table {
-        words: [u64; 137],
+        words: [u64; 149],
     }
 
     extern "C" {
-        fn lift_begin(t: *mut Table, gateways: *const u64, numbers: usize) -> u32;
+        fn lift_begin_flat(t: *mut Table, gateways: *const u64, numbers: usize) -> u32;
         #[rustfmt::skip]
         fn lift_receive(t: *mut Table, time: u64, frame: *const u8, frame_len: usize, contexts: *const u8, contexts_len: usize, mem: *mut u8, mem_len: usize, out: *mut u8, out_len: usize) -> u32;
         fn lift_frames(datagram: *const u8, datagram_len: usize, link: *const u64, numbers: usize) -> u32;
@@ -56,11 +56,11 @@ mod lift {
     }
 
     impl Receiver {
-        pub fn new(kind: u64, value: u64) -> Result<Receiver, u32> {
-            let mut r = Receiver { table: Table { words: [0; 137] }, mem: vec![0; MEM_BYTES] };
-            let numbers = [kind, value];
+        pub fn new(pan: u16, kind: u64, value: u64) -> Result<Receiver, u32> {
+            let mut r = Receiver { table: Table { words: [0; 149] }, mem: vec![0; MEM_BYTES] };
+            let numbers = [kind | (u64::from(pan) + 1) << 16, value];
             // SAFETY: as above; the table's bytes are all zero.
-            match unsafe { lift_begin(&mut r.table, numbers.as_ptr(), numbers.len()) } {
+            match unsafe { lift_begin_flat(&mut r.table, numbers.as_ptr(), numbers.len()) } {
                 0 => Ok(r),
                 n => Err(n),
             }
@@ -109,7 +109,7 @@ fn datagram(size: usize) -> Vec<u8> {
 fn answer(size: usize, from: (u64, u64), tag: u64, limit: u64) -> Result<(), u32> {
     let link = Link([0xabcd, from.0, from.1, SHORT, 0x0002, 5, tag, limit]);
     let sent = datagram(size);
-    let mut other = Receiver::new(from.0, from.1)?;
+    let mut other = Receiver::new(0xabcd, from.0, from.1)?;
     let count = link.frames(&sent)?;
     print!("{size} bytes, at most {limit}: {count} frames");
     let mut whole = None;
