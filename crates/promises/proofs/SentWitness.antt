@@ -9,7 +9,7 @@ use lib.ListN.{length, replicate}
 use borrow.Author.Tests.{ltb-true}
 use Rattle.octets.specs.Read.{is, byte, be16, be32, be64}
 use Rattle.octets.proofs.Steps.{and-true}
-use Rattle.ieee802154.specs.Mac.{lengthOf as macLengthOf}
+use Rattle.ieee802154.specs.Mac.{suppresses, lengthOf as macLengthOf}
 use Rattle.ieee802154.specs.declared.addr.Address.the-variants.{Short}
 use Rattle.ieee802154.specs.declared.addr.PanField.{PanField}
 use Rattle.sixlowpan.specs.NhcUdp.{formOf}
@@ -78,7 +78,7 @@ block-ours = refl
 
 module _ (n : ℕ) where
   mac-length : macLength (over n) ≡ 9
-  unfolding macLengthOf
+  unfolding macLengthOf suppresses
   mac-length = refl
 
   head-length : headLength (over n) block ≡ 6
