@@ -69,7 +69,8 @@ def buildings():
 
 
 def two_buildings():
-    lines = ["# Two buildings, one short address: 0001 in PAN abcd still sends last month's block, 0001 in PAN 1234 this month's.",
+    lines = ["# Two buildings, one short address: 0001 in PAN abcd still sends last month's block, 0001 in PAN 1234",
+             "# this month's.",
              "# Both have 400 bytes, and both gateways chose the tag 0007."]
     sent = {pan: f.frames(block, 7, LAST_MONTH, CONTROLLER, limit=80, pan=pan) for pan, block in buildings().items()}
     for i in range(len(sent[HERE])):
@@ -176,8 +177,8 @@ def printed(capture):
 
 
 def both_come_out():
-    """To a table of both gateways each building's block comes out, to the byte: the model's answers, and those of `calls` where it is
-    built."""
+    """To a table of both gateways each building's block comes out, to the byte: the model's answers, and those of `calls`
+    where it is built."""
     calls = [["call", *line.split()[:2], "-", "16384", "2047"] for line in two_buildings() if line[0] != "#"]
     text = "\n".join(["gateways s0001@abcd s0001@1234"] + [" ".join(call) for call in calls]) + "\n"
     wanted = [f"out {len(block)} {block.hex()}" for block in buildings().values()]
