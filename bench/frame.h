@@ -75,14 +75,16 @@ static bool read_security(struct rest *r) {
 static uint64_t read_mac(struct rest *r, struct mac *m) {
   if (r->left < 3) return CUT_SHORT;
   if (r->left > 127) return BAD_LENGTH;
-  const uint8_t *f = take(r, 3);
+  const uint8_t *f = take(r, 2);
   unsigned type = f[0] & 7, version = f[1] >> 4 & 3, dst = f[1] >> 2 & 3, src = f[1] >> 6;
+  bool suppressed = version == 2 && f[1] & 1 && type <= 3, elements = version == 2 && f[1] & 2;
   bool secured = f[0] & 0x08, compressed = f[0] & 0x40;
   if (version == 3 || dst == 1 || src == 1 || (version < 2 && compressed && dst == 0 && src == 0)) return BAD_MODE;
+  if (!suppressed) take(r, 1);
   bool addressed = type == 0 || type == 1 || type == 3 || type == 5 || (type == 2 && version == 2);
   if (addressed && !read_addressing(r, version, dst, src, compressed, m)) return CUT_SHORT;
   if (secured && !read_security(r)) return CUT_SHORT;
-  return secured || type != 1 ? NOT_TAKEN : 0;
+  return secured || elements || type != 1 ? NOT_TAKEN : 0;
 }
 
 // The relays' headers: a mesh header, whose originator and final address stand for the MAC's, and a broadcast header.
