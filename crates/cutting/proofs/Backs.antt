@@ -12,7 +12,8 @@ use Rattle.octets.specs.Read.{Read, Reader, got, choose, give, byte, be16, be32
 use Rattle.octets.specs.Write.{byteBytes, be16Bytes, be32Bytes, be64Bytes}
 use Rattle.octets.proofs.Steps.{and-true}
 use Rattle.expand.specs.Full as Full
-use Rattle.expand.specs.declared.headers.UdpField.{UdpField}
+use Rattle.expand.specs.Plain as Plain
+use Rattle.expand.specs.Plain.{UdpField}
 use Rattle.expand.proofs.SumLaws.{Bytes}
 use Rattle.cutting.specs.Fields.{orZero, isOurs, isUdp}
 use Rattle.cutting.specs.Head.{nextOf, ipOf, udpOf, covers}
@@ -97,26 +98,25 @@ ours-facts d e =
     let x = and-true (eqb (orZero (be32 d 0)) (6 * 2 ^ 28)) (eqb (orZero (be16 d 4) + 40) (length d)) e in
     record { first = eqb-true (orZero (be32 d 0)) (6 * 2 ^ 28) (x .0); sized = eqb-true (orZero (be16 d 4) + 40) (length d) (x .1) }
 
-next-go : (d : List ℕ) (t : Bool) → isUdp d ≡ t → Full.nextOf (nextOf d) ≡ orZero (byte d 6)
+next-go : (d : List ℕ) (t : Bool) → isUdp d ≡ t → Plain.nextOf (nextOf d) ≡ orZero (byte d 6)
 unfolding nextOf
 next-go d true e = rw e (sym (udp-facts d e .next))
 next-go d false e = rw e refl
 
 -- ---- the headers in full
-no-udp : (n : ℕ) → Full.udpBytes UdpField.None n ≡ []
-unfolding Full.udpBytes
+no-udp : (n : ℕ) → Plain.udpBytes UdpField.None n ≡ []
 no-udp n = refl
 
 abbrev pub udpField : List ℕ → UdpField
 udpField d = choose (isUdp d) (UdpField.Some (udpOf d)) UdpField.None
 
 module _ (l : Link) (d : List ℕ) (w : Bytes d) (o : Ours d) (h : 40 ≤ length d) where
-  front-back : be32Bytes (6 * 2 ^ 28) ++ (be16Bytes (length d - 40) ++ (byteBytes (Full.nextOf (nextOf d)) ++ byteBytes (orZero (byte d 7)))) ≡ slice d 0 8
+  front-back : be32Bytes (6 * 2 ^ 28) ++ (be16Bytes (length d - 40) ++ (byteBytes (Plain.nextOf (nextOf d)) ++ byteBytes (orZero (byte d 7)))) ≡ slice d 0 8
   front-back =
       let q : orZero (be16 d 4) ≡ length d - 40 = omega (arith, o .sized) in
       let e1 : be32Bytes (6 * 2 ^ 28) ≡ slice d 0 4 = ap be32Bytes (sym (o .first)) ∙ back-be32 d w .back 0 (omega arith) in
       let e2 : be16Bytes (length d - 40) ≡ slice d 4 2 = ap be16Bytes (sym q) ∙ back-be16 d w .back 4 (omega arith) in
-      let e3 : byteBytes (Full.nextOf (nextOf d)) ≡ slice d 6 1 = ap byteBytes (next-go d (isUdp d) refl) ∙ back-byte d w .back 6 (omega arith) in
+      let e3 : byteBytes (Plain.nextOf (nextOf d)) ≡ slice d 6 1 = ap byteBytes (next-go d (isUdp d) refl) ∙ back-byte d w .back 6 (omega arith) in
       let e4 : byteBytes (orZero (byte d 7)) ≡ slice d 7 1 = back-byte d w .back 7 (omega arith) in
       join d _ _ 0 4 4 e1 (join d _ _ 4 2 2 e2 (join d _ _ 6 1 1 e3 e4))
 
@@ -125,12 +125,12 @@ module _ (l : Link) (d : List ℕ) (w : Bytes d) (o : Ours d) (h : 40 ≤ length
       let v = back-be64 d w in
       join d _ _ 8 8 24 (v .back 8 (omega arith)) (join d _ _ 16 8 16 (v .back 16 (omega arith)) (join d _ _ 24 8 8 (v .back 24 (omega arith)) (v .back 32 (omega arith))))
 
-  ipv6-back : Full.ipv6Bytes (ipOf l d) (length d - 40) ≡ slice d 0 40
-  unfolding Full.ipv6Bytes Full.frontBytes Full.bothBytes ipOf
+  ipv6-back : Plain.ipv6Bytes (ipOf l d) (length d - 40) ≡ slice d 0 40
+  unfolding Full.ipv6With Full.frontWith Full.bothBytes ipOf
   ipv6-back = join d _ _ 0 8 32 front-back both-back
 
-  udp-back : Udp d → Full.udpBytes (UdpField.Some (udpOf d)) (length d - 40) ≡ slice d 40 8
-  unfolding Full.udpBytes udpOf
+  udp-back : Udp d → Plain.udpBytes (UdpField.Some (udpOf d)) (length d - 40) ≡ slice d 40 8
+  unfolding Full.udpFull udpOf
   udp-back u =
       let n : 48 ≤ length d = u .long in
       let q : orZero (be16 d 44) ≡ length d - 40 = omega (arith, u .sized) in
@@ -138,14 +138,14 @@ module _ (l : Link) (d : List ℕ) (w : Bytes d) (o : Ours d) (h : 40 ≤ length
       let e : be16Bytes (length d - 40) ≡ slice d 44 2 = ap be16Bytes (sym q) ∙ v .back 44 (omega arith) in
       join d _ _ 40 2 6 (v .back 40 (omega arith)) (join d _ _ 42 2 4 (v .back 42 (omega arith)) (join d _ _ 44 2 2 e (v .back 46 (omega arith))))
 
-  both-go : (t : Bool) → isUdp d ≡ t → Full.ipv6Bytes (ipOf l d) (length d - 40) ++ Full.udpBytes (udpField d) (length d - 40) ≡ take (covers d) d
+  both-go : (t : Bool) → isUdp d ≡ t → Plain.ipv6Bytes (ipOf l d) (length d - 40) ++ Plain.udpBytes (udpField d) (length d - 40) ≡ take (covers d) d
   unfolding covers
   both-go true e = rw e (join d _ _ 0 40 8 ipv6-back (udp-back (udp-facts d e)))
   both-go false e = rw e (none-go (ipv6-back))
     where
-      none-go : Full.ipv6Bytes (ipOf l d) (length d - 40) ≡ slice d 0 40 → Full.ipv6Bytes (ipOf l d) (length d - 40) ++ Full.udpBytes UdpField.None (length d - 40) ≡ take 40 d
-      none-go p = ap (λ z. Full.ipv6Bytes (ipOf l d) (length d - 40) ++ z) (no-udp (length d - 40)) ∙ append-nil (Full.ipv6Bytes (ipOf l d) (length d - 40)) ∙ p
+      none-go : Plain.ipv6Bytes (ipOf l d) (length d - 40) ≡ slice d 0 40 → Plain.ipv6Bytes (ipOf l d) (length d - 40) ++ Plain.udpBytes UdpField.None (length d - 40) ≡ take 40 d
+      none-go p = ap (λ z. Plain.ipv6Bytes (ipOf l d) (length d - 40) ++ z) (no-udp (length d - 40)) ∙ append-nil (Plain.ipv6Bytes (ipOf l d) (length d - 40)) ∙ p
 
   -- the compressed headers stand for the first bytes of the datagram
-  pub headers-full : Full.ipv6Bytes (ipOf l d) (length d - 40) ++ Full.udpBytes (udpField d) (length d - 40) ≡ take (covers d) d
+  pub headers-full : Plain.ipv6Bytes (ipOf l d) (length d - 40) ++ Plain.udpBytes (udpField d) (length d - 40) ≡ take (covers d) d
   headers-full = both-go (isUdp d) refl

@@ -1,24 +1,27 @@
 -- The compressed headers: what calls gave of them, and how long they are.
-use Prim.Native.Nat.{ℕ, _+_, _≤_}
+use Prim.Native.Nat.{ℕ, _+_, _-_, _≤_}
 use native.Mathlib.Nat.{lt-of-not-le}
 use native.Mathlib.Decide.{decLe}
 use native.Mathlib.Omega.{arith}
-use mathlib.Core.List.{List, [], _++_}
+use mathlib.Core.List.{List, [], _++_, append-nil}
 use mathlib.Core.Bool.{Bool, true, false}
 use mathlib.Core.Path.{_≡_, refl, sym, ap, _∙_}
 use lib.Dec.{eqb}
-use lib.ListN.{length, take, drop, length-append, length-replicate, replicate}
-use lib.Seq.{take-append-seam}
+use lib.ListN.{length, take, drop, length-append, length-drop, drop-of-length-le}
+use lib.Seq.{length-take-le, drop-drop}
 use borrow.Author.Tests.{le-leb, lt-leb}
-use Rattle.octets.specs.Read.{choose, byte, be16, be64}
+use Rattle.octets.specs.Read.{choose, byte, be16}
 use Rattle.octets.specs.Write.{put, over}
 use Rattle.octets.specs.Ipv6.{ip}
 use Rattle.octets.specs.declared.field.ByteField.{ByteField}
 use Rattle.octets.specs.declared.field.WordField.{WordField}
-use Rattle.octets.proofs.Puts.{more, put-nil}
+use Rattle.octets.specs.declared.ipv6.Ipv6Addr.{Ipv6Addr}
+use Rattle.octets.proofs.Puts.{more, put-nil, put-front}
+use Rattle.expand.proofs.CopyLaws.{put-inside}
 use Rattle.ieee802154.specs.declared.addr.AddressField.{AddressField}
 use Rattle.ieee802154.specs.Mac as Mac
 use Rattle.ieee802154.specs.declared.header.Repr as MacHeader
+use Rattle.ieee802154.proofs.WriteSteps as MacSteps
 use Rattle.sixlowpan.specs.NhcUdp.{udpLength, udpBytes, udpForm, portWidth, portsWidth, checksumWidth, bitOf}
 use Rattle.sixlowpan.specs.declared.nhc.UdpNhcRepr.{UdpNhcRepr}
 use Rattle.sixlowpan.specs.declared.protocol.NextHeader.{NextHeader}
@@ -30,16 +33,21 @@ use Rattle.iphc.specs.declared.header.Repr.{Repr}
 use Rattle.iphc.proofs.Puts as IphcPuts
 use Rattle.iphc.proofs.Lengths.{at-most-36}
 use Rattle.cutting.specs.Fields.{orZero, isUdp}
-use Rattle.cutting.specs.Head.{macOf, macBytes, nextOf, ipOf, udpOf, udpPart, udpPartLength, headBytes, headLength, covers}
+use Rattle.cutting.specs.Head.{macOf, macLength, macBytes, nextOf, ipOf, udpOf, udpPart, udpPartLength, headBytes, headLength, covers}
+use Rattle.cutting.specs.Head.{srcOf, dstOf, headOf}
 use Rattle.cutting.specs.declared.link.Link.{Link}
+use Rattle.cutting.specs.declared.head.Head.{Head}
 
 -- ---- the headers, of what calls gave
 pub next-told : (x y : ℕ) → x ≡ y → Uncompressed (record { 0 = x }) ≡ Uncompressed (record { 0 = y })
 next-told x y p = ap (λ z. Uncompressed (record { 0 = z })) p
 
-pub ip-told : (l : Link) (d : List ℕ) (p i q j : ℕ) (n : NextHeader) (h : ℕ) → p ≡ orZero (be64 d 8) → i ≡ orZero (be64 d 16) → q ≡ orZero (be64 d 24) → j ≡ orZero (be64 d 32) → n ≡ nextOf d → h ≡ orZero (byte d 7) → _≡_ {A = Repr} (record { «src_addr» = ip p i; «ll_src_addr» = AddressField.Some (l .src); «dst_addr» = ip q j; «ll_dst_addr» = AddressField.Some (l .dst); «next_header» = n; «hop_limit» = h; ecn = ByteField.None; dscp = ByteField.None; «flow_label» = LabelField.None }) (ipOf l d)
+pub address-told : (p i q j : ℕ) → p ≡ q → i ≡ j → ip p i ≡ ip q j
+address-told p i q j e f = rw (e, f) refl
+
+pub ip-told : (l : Link) (d : List ℕ) (s t : Ipv6Addr) (n : NextHeader) (h : ℕ) → s ≡ srcOf d → t ≡ dstOf d → n ≡ nextOf d → h ≡ orZero (byte d 7) → _≡_ {A = Repr} (record { «src_addr» = s; «ll_src_addr» = AddressField.Some (l .src); «dst_addr» = t; «ll_dst_addr» = AddressField.Some (l .dst); «next_header» = n; «hop_limit» = h; ecn = ByteField.None; dscp = ByteField.None; «flow_label» = LabelField.None }) (ipOf l d)
 unfolding ipOf
-ip-told l d p i q j n h e1 e2 e3 e4 e5 e6 = rw (e1, e2, e3, e4, e5, e6) refl
+ip-told l d s t n h e1 e2 e3 e4 = rw (e1, e2, e3, e4) refl
 
 pub udp-told : (d : List ℕ) (s t c : ℕ) → s ≡ orZero (be16 d 40) → t ≡ orZero (be16 d 42) → c ≡ orZero (be16 d 46) → _≡_ {A = UdpNhcRepr} (record { «src_port» = s; «dst_port» = t; checksum = WordField.Some c }) (udpOf d)
 unfolding udpOf
@@ -104,30 +112,61 @@ module _ (d : List ℕ) (b : Bool) where
   unfolding udpPart
   put-udp-none at l p q = rw (← p, q) (put-nil at l)
 
-pub head-told : (l : Link) (d : List ℕ) (h : Repr) (n m : ℕ) → h ≡ ipOf l d → n ≡ Iphc.lengthOf h → m ≡ udpPartLength d → (n + m ≡ headLength l d) × (n + m ≤ 43)
-unfolding headLength
-head-told l d h n m e f g = (ap (λ x. x + m) (f ∙ ap Iphc.lengthOf e) ∙ ap (λ x. Iphc.lengthOf (ipOf l d) + x) g, omega (arith, at-most-36 h, udp-part-most d))
+pub head-told : (l : Link) (d : List ℕ) (s t : Ipv6Addr) (u : Bool) (h : Repr) (n m : ℕ) → s ≡ srcOf d → t ≡ dstOf d → u ≡ isUdp d → h ≡ ipOf l d → n ≡ Iphc.lengthOf h → m ≡ udpPartLength d → _≡_ {A = Head} (record { src = s; dst = t; udp = u; len = n + m }) (headOf l d)
+unfolding headOf headLength
+head-told l d s t u h n m e1 e2 e3 e4 e5 e6 = rw (e5, e4, e6, e1, e2, e3) refl
+
+-- what was read and measured
+module _ (l : Link) (d : List ℕ) (h : Head) (e : h ≡ headOf l d) where
+  pub head-addresses : (h .src ≡ srcOf d) × (h .dst ≡ dstOf d)
+  unfolding headOf
+  head-addresses = (ap (λ z. z .src) e, ap (λ z. z .dst) e)
+
+  pub head-udp : h .udp ≡ isUdp d
+  unfolding headOf
+  head-udp = ap (λ z. z .udp) e
+
+  pub head-len : h .len ≡ headLength l d
+  unfolding headOf
+  head-len = ap (λ z. z .len) e
+
+  pub head-sum : (r : Repr) (n : ℕ) → r ≡ ipOf l d → n ≡ udpPartLength d → h .len ≡ Iphc.lengthOf r + n
+  unfolding headLength
+  head-sum r n p q = head-len ∙ rw (← q, ← p) refl
 
 pub put-head-told : (l : Link) (d : List ℕ) (h : Repr) (n at : ℕ) (a b c : List ℕ) → h ≡ ipOf l d → n ≡ Iphc.lengthOf h → b ≡ put at (Iphc.bytesOf h) a → c ≡ put (at + n) (udpPart d) b → c ≡ put at (headBytes l d) a
 unfolding headBytes
 put-head-told l d h n at a b c e f p q = more a b c at n (Iphc.bytesOf h) (udpPart d) (IphcPuts.length-bytes h ∙ sym f) p q ∙ ap (λ z. put at (Iphc.bytesOf z ++ udpPart d) a) e
 
-pub put-mac-told : (l : Link) (h : MacHeader.Repr) (a b : List ℕ) → h ≡ macOf l → b ≡ put 0 (Mac.bytesOf h) a → b ≡ put 0 (macBytes l) a
-put-mac-told l h a b e p = p ∙ ap (λ z. put 0 (Mac.bytesOf z) a) e
+pub put-mac-told : (l : Link) (h : MacHeader.Repr) (a b : List ℕ) → h ≡ macOf l → macLength l ≤ length a → b ≡ over (Mac.lengthOf h) (Mac.bytesOf h) a → b ≡ put 0 (macBytes l) a
+put-mac-told l h a b e w p =
+    let n : length (macBytes l) ≡ macLength l = MacSteps.length-bytes (macOf l) in
+    let f : put 0 (macBytes l) a ≡ macBytes l ++ drop (macLength l) a = put-front (macBytes l) a (omega arith) ∙ ap (λ k. macBytes l ++ drop k a) n in
+    p ∙ ap (λ z. over (Mac.lengthOf z) (Mac.bytesOf z) a) e ∙ rw (le-leb (macLength l) (length a) w) (sym f)
 
 -- ---- a datagram is as long as what they stand for
 covers-most : (t : Bool) → choose t 48 40 ≤ 48
 covers-most true = omega arith
 covers-most false = omega arith
 
+pub covers-told : (d : List ℕ) (u : Bool) → u ≡ isUdp d → choose u 48 40 ≡ covers d
+unfolding covers
+covers-told d u e = ap (λ z. choose z 48 40) e
+
 pub covers-within : (d : List ℕ) → 40 ≤ length d → covers d ≤ length d
 unfolding covers isUdp
 covers-within d h = elim (decLe 48 (length d)) [ yes q ↦ omega (arith, covers-most (isUdp d)) | no q ↦ rw (lt-leb 48 (length d) (lt-of-not-le q)) h ]
 
--- ---- a header that was written into a room of its own, and put from there
-pub put-emitted : (k at n m : ℕ) (bs s l out : List ℕ) → length bs ≡ m → m ≤ k → n ≡ m → s ≡ over m bs (replicate k 0) → out ≡ put at (take n (drop 0 s)) l → out ≡ put at bs l
-put-emitted k at n m bs s l out e h p q r =
-    let room : List ℕ = replicate k 0 in
-    let w : m ≤ length room = omega (arith, length-replicate {A = ℕ} k 0) in
-    let f : take n s ≡ bs = ap (λ k. take k s) (p ∙ sym e) ∙ ap (take (length bs)) (q ∙ rw (le-leb m (length room) w) refl) ∙ take-append-seam bs (drop m room) in
-    r ∙ ap (λ z. put at z l) f
+-- ---- a header that was written into its part of the room
+pub put-emitted : (at e n : ℕ) (bs s l : List ℕ) → length bs ≡ n → e ≡ at + n → e ≤ length l → s ≡ over n bs (take (e - at) (drop at l)) → take at l ++ (s ++ drop (e - at) (drop at l)) ≡ put at bs l
+put-emitted at e n bs s l p q h r =
+    let k : e - at ≡ n = omega arith in
+    let w : length (take n (drop at l)) ≡ n = length-take-le n (drop at l) (omega (arith, length-drop at l)) in
+    let t : s ≡ bs =
+    r
+    ∙ ap (λ z. over n bs (take z (drop at l))) k
+    ∙ rw (le-leb n (length (take n (drop at l))) (omega arith)) (ap (λ z. bs ++ z) (drop-of-length-le (take n (drop at l)) {i = n} (omega arith)) ∙ append-nil bs)
+    in
+    ap (λ z. take at l ++ (z ++ drop (e - at) (drop at l))) t
+    ∙ ap (λ z. take at l ++ (bs ++ z)) (ap (λ z. drop z (drop at l)) (k ∙ sym p) ∙ drop-drop (length bs) at l)
+    ∙ sym (put-inside at bs l (omega arith))

@@ -7,4 +7,5 @@ pub mod Backs
 pub mod Trips
 pub mod Examples
 pub mod Cuttings
+pub mod Fewest
 pub mod Unique

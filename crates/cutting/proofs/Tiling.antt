@@ -22,7 +22,7 @@ use Rattle.cutting.specs.declared.piece.Plan.{Plan}
 use Rattle.cutting.specs.declared.piece.Piece.{Piece}
 use Rattle.cutting.specs.declared.piece.Piece.the-variants.{Whole, First, Later}
 use Rattle.cutting.proofs.HeadLaws.{head-most, covers-within}
-use Rattle.cutting.proofs.WriteLaws.{Ready, middle-whole, middle-first, middle-later, frame-length}
+use Rattle.cutting.proofs.WriteLaws.{Ready, middle-is, frame-length}
 
 -- it holds of every element
 abbrev pub Each : {A : Type 0} → (A → Type 0) → List A → Type 0
@@ -85,15 +85,15 @@ module _ (l : Link) (d : List ℕ) (h : Ready l d) where
 
   pub whole-within : macLength l + (headLength l d + (length d - covers d)) ≤ l .limit → Within Whole
   unfolding partOf
-  whole-within k = omega (arith, frame-length l d Whole (macLength l) (headLength l d) (length (drop (covers d) d)) refl (middle-whole l d Whole (headLength l d) refl refl .0) refl, length-drop (covers d) d)
+  whole-within k = omega (arith, frame-length l d Whole (macLength l) (headLength l d) (length (drop (covers d) d)) refl (middle-is l d Whole) refl, length-drop (covers d) d)
 
   pub first-within : (n : ℕ) → n ≤ l .limit - (macLength l + (4 + headLength l d)) → Within (First n)
   unfolding partOf
-  first-within n k = omega (arith, frame-length l d (First n) (macLength l) (4 + headLength l d) (length (take n (drop (covers d) d))) refl (middle-first l d (First n) n (headLength l d) refl refl .0) refl, part-most (drop (covers d) d) n, MacSteps.length-most (macOf l), head-most l d)
+  first-within n k = omega (arith, frame-length l d (First n) (macLength l) (4 + headLength l d) (length (take n (drop (covers d) d))) refl (middle-is l d (First n)) refl, part-most (drop (covers d) d) n, MacSteps.length-most (macOf l), head-most l d)
 
   pub later-within : (at n : ℕ) → n ≤ l .limit - (macLength l + 5) → Within (Later at n)
   unfolding partOf
-  later-within at n k = omega (arith, frame-length l d (Later at n) (macLength l) 5 (length (take n (drop at d))) refl (middle-later l d (Later at n) at n refl .0) refl, part-most (drop at d) n, MacSteps.length-most (macOf l))
+  later-within at n k = omega (arith, frame-length l d (Later at n) (macLength l) 5 (length (take n (drop at d))) refl (middle-is l d (Later at n)) refl, part-most (drop at d) n, MacSteps.length-most (macOf l))
 
   -- what holds of a datagram in one frame, of a first part and of every later one holds of every piece
   module _ (P : Piece → Type 0) (whole : macLength l + (headLength l d + (length d - covers d)) ≤ l .limit → P Whole) (first : (n : ℕ) → FirstPart l d n → P (First n)) (later : (least at n : ℕ) → 1 ≤ least → Good (l .limit - (macLength l + 5)) (length d) least at n → P (Later at n)) where

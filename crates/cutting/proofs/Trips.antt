@@ -51,16 +51,16 @@ use Rattle.iphc.specs.declared.form.Inline.the-variants.{Nothing, Bits8, Bits16
 use Rattle.iphc.specs.declared.header.Repr as Iphc
 use Rattle.iphc.proofs.Puts as IphcPuts
 use Rattle.iphc.proofs.RoundTrip as IphcTrip
-use Rattle.expand.specs.Headers.{transport, byNext, behind, headers}
+use Rattle.expand.specs.Plain as Plain
+use Rattle.expand.specs.Plain.{UdpField, Headers, transport, byNext, behind, headers, plain, bytesOf, sized}
 use Rattle.expand.specs.Full as Full
-use Rattle.expand.specs.Sum.{summed}
-use Rattle.expand.specs.Expand as Expand
-use Rattle.expand.specs.Expand.{Expansion, plain, totalOf, computes, bytesOf, sized, expansion}
-use Rattle.expand.specs.declared.headers.UdpField.{UdpField}
-use Rattle.expand.specs.declared.headers.Headers.{Headers}
+use Rattle.expand.specs.Sum.{noSum, carriedAt, wasElided, summedBy}
+use Rattle.expand.specs.Expand.{Expansion, totalOf, finished, expansion}
+use Rattle.expand.specs.declared.checksum.UdpSum.{UdpSum}
+use Rattle.expand.proofs.Plain.{expansion-plain}
 use Rattle.expand.proofs.SumLaws.{Bytes}
 use Rattle.cutting.specs.Fields.{isUdp}
-use Rattle.cutting.specs.Head.{macOf, macLength, macBytes, nextOf, ipOf, udpOf, udpPart, udpPartLength, headBytes, headLength, covers}
+use Rattle.cutting.specs.Head.{macOf, macLength, macBytes, nextOf, ipOf, udpOf, udpPart, udpPartLength, headBytes, headLength, covers, sumSent}
 use Rattle.cutting.specs.Cut.{hasBoth, middle, partOf, frameOf}
 use Rattle.cutting.specs.declared.link.Link.{Link}
 use Rattle.cutting.specs.declared.piece.Piece.{Piece}
@@ -170,33 +170,42 @@ module _ (l : Link) (d : List ℕ) where
   behind-drop q r m e = ap (λ z. drop (z + headLength l d) (q ++ (headBytes l d ++ r))) (sym e) ∙ drop-append-add q (headBytes l d ++ r) (headLength l d) ∙ ap (λ z. drop z (headBytes l d ++ r)) (sym (length-head l d)) ∙ drop-append-seam (headBytes l d) r
 
 -- ---- what they stand for
-computes-not : (size : WordField) (u : UdpField) → Full.isElided u ≡ false → computes size u ≡ false
-computes-not WordField.None u e = e
-computes-not (WordField.Some n) u e = refl
+finished-not : (size : WordField) (m : UdpSum) (d : List ℕ) → wasElided m ≡ false → finished size m d ≡ d
+unfolding summedBy
+finished-not WordField.None m d e = rw e refl
+finished-not (WordField.Some n) m d e = refl
 
-sized-go : (size : WordField) (i : Iphc.Repr) (u : UdpField) (k : ℕ) (s r x : List ℕ) (total : ℕ) → drop k s ≡ r → Full.isElided u ≡ false → totalOf size (40 + (Full.udpSize u + length r)) ≡ total → 40 + (Full.udpSize u + length r) ≤ total → Full.ipv6Bytes i (total - 40) ++ Full.udpBytes u (total - 40) ≡ x → sized size (record { ip = i; udp = u; rest = k }) s ≡ is (record { bytes = x ++ r; elided = false })
+sized-go : (size : WordField) (i : Iphc.Repr) (u : UdpField) (k : ℕ) (s r x : List ℕ) (total : ℕ) → drop k s ≡ r → wasElided (Plain.sumOf u) ≡ false → totalOf size (40 + (Plain.udpSize u + length r)) ≡ total → 40 + (Plain.udpSize u + length r) ≤ total → Plain.ipv6Bytes i (total - 40) ++ Plain.udpBytes u (total - 40) ≡ x → sized size (record { ip = i; udp = u; rest = k }) s ≡ is (record { bytes = x ++ r; sum = Plain.sumOf u })
 unfolding sized bytesOf plain
 sized-go size i u k s r x total e1 e2 e3 h e4 =
-    rw (e1, e3, le-leb (40 + (Full.udpSize u + length r)) total h, computes-not size u e2, e2)
-    (ap (λ z. is (record { bytes = z; elided = false })) (sym (append-assoc (Full.ipv6Bytes i (total - 40)) (Full.udpBytes u (total - 40)) r) ∙ ap (λ z. z ++ r) e4))
+    rw (e1, e3, le-leb (40 + (Plain.udpSize u + length r)) total h)
+    (ap (λ z. is (record { bytes = z; sum = Plain.sumOf u })) (finished-not size (Plain.sumOf u) (Plain.ipv6Bytes i (total - 40) ++ (Plain.udpBytes u (total - 40) ++ r)) e2 ∙ sym (append-assoc (Plain.ipv6Bytes i (total - 40)) (Plain.udpBytes u (total - 40)) r) ∙ ap (λ z. z ++ r) e4))
 
-field-go : (t : Bool) (u : UdpNhcRepr) → Full.isAbsent (u .checksum) ≡ false → (40 + Full.udpSize (choose t (UdpField.Some u) UdpField.None) ≡ choose t 48 40) × (Full.isElided (choose t (UdpField.Some u) UdpField.None) ≡ false)
-field-go true u e = (refl, e)
+field-go : (t : Bool) (u : UdpNhcRepr) → Full.isAbsent (u .checksum) ≡ false → (40 + Plain.udpSize (choose t (UdpField.Some u) UdpField.None) ≡ choose t 48 40) × (Plain.sumOf (choose t (UdpField.Some u) UdpField.None) ≡ choose t (carriedAt 0 40) noSum)
+field-go true u e = (refl, rw e refl)
 field-go false u e = (refl, refl)
 
-field-is : (d : List ℕ) → (40 + Full.udpSize (udpField d) ≡ covers d) × (Full.isElided (udpField d) ≡ false)
-unfolding covers udpOf
+field-is : (d : List ℕ) → (40 + Plain.udpSize (udpField d) ≡ covers d) × (Plain.sumOf (udpField d) ≡ sumSent d)
+unfolding covers udpOf sumSent
 field-is d = field-go (isUdp d) (udpOf d) refl
 
+sent-go : (t : Bool) → wasElided (choose t (carriedAt 0 40) noSum) ≡ false
+sent-go true = refl
+sent-go false = refl
+
+sent-carried : (d : List ℕ) → wasElided (sumSent d) ≡ false
+unfolding sumSent
+sent-carried d = sent-go (isUdp d)
+
 -- what the frame's headers and the r behind them stand for: as many bytes of the datagram as they cover, and r
-pub expansion-read : (l : Link) (d ctx q r : List ℕ) (m : ℕ) (size : WordField) → Bytes d → Ours d → 40 ≤ length d → length q ≡ m → length (q ++ (headBytes l d ++ r)) ≤ 127 → covers d + length r ≤ length d → totalOf size (covers d + length r) ≡ length d → expansion ctx (AddressField.Some (l .src)) (AddressField.Some (l .dst)) size (q ++ (headBytes l d ++ r)) m ≡ is (record { bytes = take (covers d) d ++ r; elided = false })
-unfolding expansion
+pub expansion-read : (l : Link) (d ctx q r : List ℕ) (m : ℕ) (size : WordField) → Bytes d → Ours d → 40 ≤ length d → length q ≡ m → length (q ++ (headBytes l d ++ r)) ≤ 127 → covers d + length r ≤ length d → totalOf size (covers d + length r) ≡ length d → expansion ctx (AddressField.Some (l .src)) (AddressField.Some (l .dst)) size (q ++ (headBytes l d ++ r)) m ≡ is (record { bytes = take (covers d) d ++ r; sum = sumSent d })
 expansion-read l d ctx q r m size w o h e n k t =
     let s : List ℕ = q ++ (headBytes l d ++ r) in
     let f = field-is d in
-    let c : 40 + (Full.udpSize (udpField d) + length r) ≡ covers d + length r = omega (arith, f .0) in
-    rw (le-ltb 127 (length s) n, headers-read l d ctx q r m e)
-    (sized-go size (ipOf l d) (udpField d) (m + headLength l d) s r (take (covers d) d) (length d) (behind-drop l d q r m e) (f .1) (ap (totalOf size) c ∙ t) (omega arith) (headers-full l d w o h))
+    let c : 40 + (Plain.udpSize (udpField d) + length r) ≡ covers d + length r = omega (arith, f .0) in
+    expansion-plain ctx (AddressField.Some (l .src)) (AddressField.Some (l .dst)) size s m (record { ip = ipOf l d; udp = udpField d; rest = m + headLength l d }) n (headers-read l d ctx q r m e)
+    ∙ sized-go size (ipOf l d) (udpField d) (m + headLength l d) s r (take (covers d) d) (length d) (behind-drop l d q r m e) (ap wasElided (f .1) ∙ sent-carried d) (ap (totalOf size) c ∙ t) (omega arith) (headers-full l d w o h)
+    ∙ ap (λ z. is (record { bytes = take (covers d) d ++ r; sum = z })) (f .1)
 
 -- ---- the first byte
 iid-go : (t s r : Bool) (x y z : Inline) → choose t (choose s (Emit.form 0b11 x) (Emit.form 0b10 y)) (choose r (Emit.form 0b11 x) (Emit.form 0b01 z)) .mode ≤ 3
@@ -322,13 +331,13 @@ module _ (l : Link) (d : List ℕ) where
       let h : Repr = Fragment (length d) (l .tag) (record { 0 = at / 8 % 256 }) in
       begins-dispatch FragmentHeader (macBytes l) (Frag.bytesOf h ++ partOf d (Later at n)) (macLength l) length-mac (begins-frag h (partOf d (Later at n)))
 
-  pub whole-expands : (ctx : List ℕ) → Bytes d → Ours d → 40 ≤ length d → length (frameOf l d Whole) ≤ 127 → expansion ctx (AddressField.Some (l .src)) (AddressField.Some (l .dst)) WordField.None (frameOf l d Whole) (macLength l) ≡ is (record { bytes = d; elided = false })
+  pub whole-expands : (ctx : List ℕ) → Bytes d → Ours d → 40 ≤ length d → length (frameOf l d Whole) ≤ 127 → expansion ctx (AddressField.Some (l .src)) (AddressField.Some (l .dst)) WordField.None (frameOf l d Whole) (macLength l) ≡ is (record { bytes = d; sum = sumSent d })
   unfolding frameOf middle partOf
   whole-expands ctx w o h k =
       let c : covers d ≤ length d = covers-within d h in
       let e : covers d + length (drop (covers d) d) ≡ length d = omega (arith, length-drop (covers d) d) in
       expansion-read l d ctx (macBytes l) (drop (covers d) d) (macLength l) WordField.None w o h length-mac k (omega arith) e
-      ∙ ap (λ z. is (record { bytes = z; elided = false })) (take-append-drop (covers d) d)
+      ∙ ap (λ z. is (record { bytes = z; sum = sumSent d })) (take-append-drop (covers d) d)
 
   pub first-frag : (n : ℕ) → length d ≤ 2047 → Frag.frag (frameOf l d (First n)) (macLength l) ≡ got (FirstFragment (length d) (l .tag)) (macLength l + 4)
   unfolding frameOf middle
@@ -351,7 +360,7 @@ module _ (l : Link) (d : List ℕ) where
       ∙ ap (λ z. got (Fragment (length d) (l .tag) (record { 0 = z })) (macLength l + length (Frag.bytesOf h))) a
       ∙ ap (λ z. got (Fragment (length d) (l .tag) (record { 0 = at / 8 })) (macLength l + z)) (FragPuts.length-bytes h)
 
-  pub first-expands : (ctx : List ℕ) (n : ℕ) → Bytes d → Ours d → 40 ≤ length d → length (frameOf l d (First n)) ≤ 127 → covers d + n ≤ length d → expansion ctx (AddressField.Some (l .src)) (AddressField.Some (l .dst)) (WordField.Some (length d)) (frameOf l d (First n)) (macLength l + 4) ≡ is (record { bytes = take (covers d + n) d; elided = false })
+  pub first-expands : (ctx : List ℕ) (n : ℕ) → Bytes d → Ours d → 40 ≤ length d → length (frameOf l d (First n)) ≤ 127 → covers d + n ≤ length d → expansion ctx (AddressField.Some (l .src)) (AddressField.Some (l .dst)) (WordField.Some (length d)) (frameOf l d (First n)) (macLength l + 4) ≡ is (record { bytes = take (covers d + n) d; sum = sumSent d })
   unfolding frameOf middle partOf
   first-expands ctx n w o h k i =
       let f : Repr = FirstFragment (length d) (l .tag) in
@@ -363,7 +372,7 @@ module _ (l : Link) (d : List ℕ) where
       let b : length (q ++ (headBytes l d ++ r)) ≤ 127 = rw (← e) k in
       let c : covers d + length r ≤ length d = omega (arith, length-take n (drop (covers d) d), length-drop (covers d) d) in
       rw e (expansion-read l d ctx q r (macLength l + 4) (WordField.Some (length d)) w o h m b c refl)
-      ∙ ap (λ z. is (record { bytes = z; elided = false })) (sym (take-add (covers d) n d))
+      ∙ ap (λ z. is (record { bytes = z; sum = sumSent d })) (sym (take-add (covers d) n d))
 
   pub later-part : (at n : ℕ) → drop (macLength l + 5) (frameOf l d (Later at n)) ≡ take n (drop at d)
   unfolding frameOf middle partOf

@@ -1,11 +1,12 @@
 -- A frame that is written, from what calls gave.
 use Prim.Native.Nat.{ℕ, zero, suc, _+_, _-_, _/_, _%_, _≤_, _<_, min}
 use native.Mathlib.Omega.{arith}
-use mathlib.Core.List.{List, [], _∷_, _++_, map, append-nil}
+use mathlib.Core.List.{List, [], _∷_, _++_, map}
 use mathlib.Core.Bool.{Bool, true, false, _&&_}
 use mathlib.Core.Path.{_≡_, refl, sym, ap, _∙_}
 use lib.Dec.{leb}
-use lib.ListN.{length, take, drop, length-append, length-take, length-drop, take-append-drop, drop-of-length-le}
+use lib.ListN.{length, take, drop, length-append, length-take, length-drop, take-append-drop}
+use lib.Seq.{take-append-seam, take-length}
 use borrow.Author.Tests.{le-leb, lt-leb, leb-true}
 use Rattle.octets.specs.Read.{Answer, is, refused, andThen, choose}
 use Rattle.octets.specs.Refusal.{numberOf}
@@ -21,50 +22,70 @@ use Rattle.sixlowpan.specs.declared.frag.Repr.{Repr}
 use Rattle.sixlowpan.specs.declared.frag.Repr.the-variants.{FirstFragment, Fragment}
 use Rattle.sixlowpan.proofs.FragPuts as FragPuts
 use Rattle.cutting.specs.Fields.{isUdp, isOurs}
-use Rattle.cutting.specs.Head.{macOf, macLength, macBytes, headLength, headBytes, covers}
+use Rattle.cutting.specs.Head.{macOf, macLength, macBytes, headLength, headBytes, headOf, covers}
 use Rattle.cutting.specs.Pieces.{ofPiece, pieces, nth, Sane}
-use Rattle.cutting.specs.Cut.{planOf, middle, partOf, frameOf, inRange, hasBoth, cut, cutFrame, cutCount, answered, written}
+use Rattle.cutting.specs.Cut.{planOf, middle, middleLength, partOf, partAt, frameOf, inRange, hasBoth, cut, cutFrame, cutCount, answered, written}
 use Rattle.cutting.specs.declared.link.Link.{Link}
+use Rattle.cutting.specs.declared.head.Head.{Head}
 use Rattle.cutting.specs.declared.piece.Plan.{Plan}
 use Rattle.cutting.specs.declared.piece.Piece.{Piece}
 use Rattle.cutting.specs.declared.piece.PieceAnswer.{PieceAnswer}
 use Rattle.cutting.specs.declared.piece.Piece.the-variants.{Whole, First, Later}
-use Rattle.cutting.proofs.HeadLaws.{length-head, head-most, covers-within}
-
-pub frag-most : (h : Repr) → Frag.lengthOf h ≤ 5
-frag-most (FirstFragment size tag) = omega arith
-frag-most (Fragment size tag o) = omega arith
+use Rattle.cutting.proofs.HeadLaws.{length-head, head-most, head-len, head-udp, covers-told, covers-within}
 
 -- ---- the lengths of a frame's fields
 part-within : (d : List ℕ) (n : ℕ) → length (drop n d) ≤ length d
 part-within d n = omega (arith, length-drop n d)
 
-pub whole-length : (d : List ℕ) (p : Piece) (c n : ℕ) → p ≡ Whole → c ≡ covers d → n ≡ length (drop c d) → (n ≡ length (partOf d p)) × (n ≤ length d)
-unfolding partOf
-whole-length d p c n e f g = rw e (g ∙ ap (λ z. length (drop z d)) f, omega (arith, part-within d c))
+-- the part that begins at `from`
+module _ (d : List ℕ) (p : Piece) (from : ℕ) (w : from ≡ partAt (covers d) p) where
+  pub whole-length : (n : ℕ) → p ≡ Whole → n ≡ length (drop from d) → (n ≡ length (partOf d p)) × (n ≤ length d)
+  unfolding partOf
+  whole-length n e g = let f = w ∙ ap (partAt (covers d)) e in rw e (g ∙ ap (λ z. length (drop z d)) f, omega (arith, part-within d from))
 
-pub first-length : (d : List ℕ) (p : Piece) (m c r n : ℕ) → p ≡ First m → c ≡ covers d → r ≡ length (drop c d) → n ≡ min m r → (n ≡ length (partOf d p)) × (n ≤ length d)
-unfolding partOf
-first-length d p m c r n e f g h = rw e (h ∙ ap (min m) (g ∙ ap (λ z. length (drop z d)) f) ∙ sym (length-take m (drop (covers d) d)), omega (arith, part-within d c))
+  pub first-length : (m r n : ℕ) → p ≡ First m → r ≡ length (drop from d) → n ≡ min m r → (n ≡ length (partOf d p)) × (n ≤ length d)
+  unfolding partOf
+  first-length m r n e g h = let f = w ∙ ap (partAt (covers d)) e in rw e (h ∙ ap (min m) (g ∙ ap (λ z. length (drop z d)) f) ∙ sym (length-take m (drop (covers d) d)), omega (arith, part-within d from))
 
-pub later-length : (d : List ℕ) (p : Piece) (at m r n : ℕ) → p ≡ Later at m → r ≡ length (drop at d) → n ≡ min m r → (n ≡ length (partOf d p)) × (n ≤ length d)
+  pub later-length : (at m r n : ℕ) → p ≡ Later at m → r ≡ length (drop from d) → n ≡ min m r → (n ≡ length (partOf d p)) × (n ≤ length d)
+  unfolding partOf
+  later-length at m r n e g h = let f = w ∙ ap (partAt (covers d)) e in rw e (h ∙ ap (min m) (g ∙ ap (λ z. length (drop z d)) f) ∙ sym (length-take m (drop at d)), omega (arith, part-within d from))
+
+pub middle-is : (l : Link) (d : List ℕ) (p : Piece) → middleLength (headLength l d) p ≡ length (middle l d p)
+unfolding middle
+middle-is l d Whole = sym (length-head l d)
+middle-is l d (First n) =
+    let h : Repr = FirstFragment (length d) (l .tag) in
+    omega (arith, length-append (Frag.bytesOf h) (headBytes l d), FragPuts.length-bytes h, length-head l d)
+middle-is l d (Later at n) = sym (FragPuts.length-bytes (Fragment (length d) (l .tag) (record { 0 = at / 8 % 256 })))
+
+-- so many bytes from there on are the part
+taken : (n : ℕ) (s : List ℕ) → take (length (take n s)) s ≡ take n s
+taken n s = ap (take (length (take n s))) (sym (take-append-drop n s)) ∙ take-append-seam (take n s) (drop n s)
+
+part-is : (d : List ℕ) (p : Piece) → take (length (partOf d p)) (drop (partAt (covers d) p) d) ≡ partOf d p
 unfolding partOf
-later-length d p at m r n e g h = rw e (h ∙ ap (min m) g ∙ sym (length-take m (drop at d)), omega (arith, part-within d at))
+part-is d Whole = take-length (drop (covers d) d)
+part-is d (First n) = taken n (drop (covers d) d)
+part-is d (Later at n) = taken n (drop at d)
+
+part-taken : (d : List ℕ) (p : Piece) (from n : ℕ) → from ≡ partAt (covers d) p → n ≡ length (partOf d p) → take n (drop from d) ≡ partOf d p
+part-taken d p from n w i = rw (w, i) (part-is d p)
 
 module _ (l : Link) (d : List ℕ) (p : Piece) where
-  pub middle-whole : (n : ℕ) → p ≡ Whole → n ≡ headLength l d → (n ≡ length (middle l d p)) × (n ≤ 47)
-  unfolding middle
-  middle-whole n e f = rw e (f ∙ sym (length-head l d), omega (arith, head-most l d))
+  -- room for what stands before the part
+  module _ (at : ℕ) (o : List ℕ) (w : at + length (middle l d p) ≤ length o) where
+    room : at + middleLength (headLength l d) p ≤ length o
+    room = omega (arith, middle-is l d p)
 
-  pub middle-first : (m n : ℕ) → p ≡ First m → n ≡ headLength l d → (4 + n ≡ length (middle l d p)) × (4 + n ≤ 47)
-  unfolding middle
-  middle-first m n e f =
-      let b : List ℕ = Frag.bytesOf (FirstFragment (length d) (l .tag)) in
-      rw e (omega (arith, length-append b (headBytes l d), FragPuts.length-bytes (FirstFragment (length d) (l .tag)), length-head l d), omega (arith, head-most l d))
+    pub room-whole : p ≡ Whole → at + headLength l d ≤ length o
+    room-whole e = omega (arith, room, ap (middleLength (headLength l d)) e)
 
-  pub middle-later : (at m : ℕ) → p ≡ Later at m → (5 ≡ length (middle l d p)) × (5 ≤ 47)
-  unfolding middle
-  middle-later at m e = rw e (sym (FragPuts.length-bytes (Fragment (length d) (l .tag) (record { 0 = at / 8 % 256 }))), omega arith)
+    pub room-first : (n : ℕ) → p ≡ First n → at + (4 + headLength l d) ≤ length o
+    room-first n e = omega (arith, room, ap (middleLength (headLength l d)) e)
+
+    pub room-later : (from n : ℕ) → p ≡ Later from n → at + 5 ≤ length o
+    room-later from n e = omega (arith, room, ap (middleLength (headLength l d)) e)
 
   pub frame-length : (m n r : ℕ) → m ≡ macLength l → n ≡ length (middle l d p) → r ≡ length (partOf d p) → m + (n + r) ≡ length (frameOf l d p)
   unfolding frameOf
@@ -79,20 +100,20 @@ module _ (l : Link) (d : List ℕ) (p : Piece) where
       let s : 0 + m ≡ m = omega arith in
       more o a c 0 m (macBytes l) (middle l d p ++ partOf d p) q x (w ∙ ap (λ k. put k (middle l d p ++ partOf d p) a) (sym s))
 
-  -- h: the MAC header; m, n and r: the lengths that calls gave
-  module _ (h : MacHeader.Repr) (m n r : ℕ) (o : List ℕ) (e : h ≡ macOf l) (f : m ≡ Mac.lengthOf h) (g : n ≡ length (middle l d p)) (i : r ≡ length (partOf d p)) where
+  -- m, n and r: the lengths that calls gave
+  module _ (m n r : ℕ) (o : List ℕ) (e : m ≡ macLength l) (g : n ≡ length (middle l d p)) (i : r ≡ length (partOf d p)) where
     pub frame-short : length o < m + (n + r) → (refused 7 ≡ wrote (length (frameOf l d p)) o) × (o ≡ over (length (frameOf l d p)) (frameOf l d p) o)
     frame-short k =
-        let s : m + (n + r) ≡ length (frameOf l d p) = frame-length m n r (f ∙ ap Mac.lengthOf e) g i in
+        let s : m + (n + r) ≡ length (frameOf l d p) = frame-length m n r e g i in
         let t : leb (length (frameOf l d p)) (length o) ≡ false = lt-leb (length (frameOf l d p)) (length o) (omega arith) in
         rw t (refl, refl)
 
-    pub frame-there : (a b c : List ℕ) → m + (n + r) ≤ length o → a ≡ put 0 (macBytes l) o → b ≡ put m (middle l d p) a → c ≡ put (m + n) (partOf d p) b → (is (m + (n + r)) ≡ wrote (length (frameOf l d p)) o) × (c ≡ over (length (frameOf l d p)) (frameOf l d p) o)
-    frame-there a b c k x y z =
-        let q : m ≡ macLength l = f ∙ ap Mac.lengthOf e in
-        let s : m + (n + r) ≡ length (frameOf l d p) = frame-length m n r q g i in
+    pub frame-there : (from : ℕ) (a b c : List ℕ) → from ≡ partAt (covers d) p → m + (n + r) ≤ length o → a ≡ put 0 (macBytes l) o → b ≡ put m (middle l d p) a → c ≡ put (m + n) (take r (drop from d)) b → (is (m + (n + r)) ≡ wrote (length (frameOf l d p)) o) × (c ≡ over (length (frameOf l d p)) (frameOf l d p) o)
+    frame-there from a b c w k x y z =
+        let s : m + (n + r) ≡ length (frameOf l d p) = frame-length m n r e g i in
         let t : leb (length (frameOf l d p)) (length o) ≡ true = le-leb (length (frameOf l d p)) (length o) (omega arith) in
-        (rw (t, s) refl, written-over (length (frameOf l d p)) (frameOf l d p) o c s k refl (frame-put m n o a b c q g x y z))
+        let u : c ≡ put (m + n) (partOf d p) b = z ∙ ap (λ q. put (m + n) q b) (part-taken d p from r w i) in
+        (rw (t, s) refl, written-over (length (frameOf l d p)) (frameOf l d p) o c s k refl (frame-put m n o a b c e g x y u))
 
   -- what stands before the part
   pub put-middle-whole : (at : ℕ) (a b : List ℕ) → p ≡ Whole → b ≡ put at (headBytes l d) a → b ≡ put at (middle l d p) a
@@ -107,30 +128,37 @@ module _ (l : Link) (d : List ℕ) (p : Piece) where
   unfolding middle
   put-middle-later from n at a b e f = rw e f
 
--- the part
-take-all : (n : ℕ) (s : List ℕ) → length s ≤ n → take n s ≡ s
-take-all n s h = sym (append-nil (take n s)) ∙ ap (λ z. take n s ++ z) (sym (drop-of-length-le s h)) ∙ take-append-drop n s
-
-module _ (d : List ℕ) (p : Piece) where
-  pub rest-whole : (c at : ℕ) (a b : List ℕ) → p ≡ Whole → c ≡ covers d → b ≡ put at (take (length d) (drop c d)) a → b ≡ put at (partOf d p) a
-  unfolding partOf
-  rest-whole c at a b e f g = rw e (g ∙ ap (λ z. put at z a) (take-all (length d) (drop c d) (part-within d c) ∙ ap (λ z. drop z d) f))
-
-  pub rest-first : (n c at : ℕ) (a b : List ℕ) → p ≡ First n → c ≡ covers d → b ≡ put at (take n (drop c d)) a → b ≡ put at (partOf d p) a
-  unfolding partOf
-  rest-first n c at a b e f g = rw e (g ∙ ap (λ z. put at (take n (drop z d)) a) f)
-
-  pub rest-later : (from n at : ℕ) (a b : List ℕ) → p ≡ Later from n → b ≡ put at (take n (drop from d)) a → b ≡ put at (partOf d p) a
-  unfolding partOf
-  rest-later from n at a b e g = rw e g
-
 -- ---- the plan
-pub plan-told : (l : Link) (d : List ℕ) (h : MacHeader.Repr) (m n c : ℕ) → h ≡ macOf l → m ≡ Mac.lengthOf h → n ≡ headLength l d → c ≡ covers d → 40 ≤ length d → length d ≤ 2047 → 80 ≤ l .limit → l .limit ≤ 127 → (_≡_ {A = Plan} (record { mac = m; head = n; covers = c; size = length d; limit = l .limit }) (planOf l d)) × Sane (record { mac = m; head = n; covers = c; size = length d; limit = l .limit })
+pub plan-told : (l : Link) (d : List ℕ) (h : Head) (r : MacHeader.Repr) (m c : ℕ) → h ≡ headOf l d → r ≡ macOf l → m ≡ Mac.lengthOf r → c ≡ choose (h .udp) 48 40 → 40 ≤ length d → length d ≤ 2047 → 80 ≤ l .limit → l .limit ≤ 127 → (_≡_ {A = Plan} (record { mac = m; head = h .len; covers = c; size = length d; limit = l .limit }) (planOf l d)) × Sane (record { mac = m; head = h .len; covers = c; size = length d; limit = l .limit })
 unfolding planOf
-plan-told l d h m n c e f g i w x y z = (
-  rw (f, e, g, i) refl,
-  record { mac = omega (arith, MacSteps.length-most h); head = omega (arith, head-most l d); covers = omega (arith, covers-within d w); size = x; low = y; high = z },
-)
+plan-told l d h r m c e f g i w x y z =
+    let k : c ≡ covers d = i ∙ covers-told d (h .udp) (head-udp l d h e) in (
+      rw (g, f, head-len l d h e, k) refl,
+      record { mac = omega (arith, MacSteps.length-most r); head = omega (arith, head-len l d h e, head-most l d); covers = omega (arith, covers-within d w); size = x; low = y; high = z },
+    )
+
+pub mac-most : (l : Link) → macLength l ≤ 23
+mac-most l = MacSteps.length-most (macOf l)
+
+module _ (l : Link) (d : List ℕ) (p : Plan) (e : p ≡ planOf l d) where
+  pub plan-mac : p .mac ≡ macLength l
+  unfolding planOf
+  plan-mac = ap (λ z. z .mac) e
+
+  pub plan-head : p .head ≡ headLength l d
+  unfolding planOf
+  plan-head = ap (λ z. z .head) e
+
+  plan-covers : p .covers ≡ covers d
+  unfolding planOf
+  plan-covers = ap (λ z. z .covers) e
+
+  -- of the piece q
+  pub middle-told : (q : Piece) (n : ℕ) → n ≡ middleLength (p .head) q → n ≡ length (middle l d q)
+  middle-told q n h = h ∙ ap (λ z. middleLength z q) plan-head ∙ middle-is l d q
+
+  pub part-told : (q : Piece) (n : ℕ) → n ≡ partAt (p .covers) q → n ≡ partAt (covers d) q
+  part-told q n h = h ∙ ap (λ z. partAt z q) plan-covers
 
 -- ---- the frame of a number
 nth-map : {A B : Type 0} (f : A → B) (xs : List A) (k : ℕ) → nth (map f xs) k ≡ andThen (nth xs k) (λ x. is (f x))

@@ -33,6 +33,17 @@ partOf d Whole = drop (covers d) d
 partOf d (First n) = take n (drop (covers d) d)
 partOf d (Later at n) = take n (drop at d)
 
+-- how long what stands before the part is, of the compressed headers' length; and where the part begins
+abbrev pub middleLength : ℕ → Piece → ℕ
+middleLength head Whole = head
+middleLength head (First n) = 4 + head
+middleLength head (Later at n) = 5
+
+abbrev pub partAt : ℕ → Piece → ℕ
+partAt covers Whole = covers
+partAt covers (First n) = covers
+partAt covers (Later at n) = at
+
 unfoldable pub frameOf : Link → List ℕ → Piece → List ℕ
 frameOf l d p = macBytes l ++ (middle l d p ++ partOf d p)
 

@@ -6,6 +6,7 @@ use Rattle.octets.specs.Read.{choose, byte, be16, be64}
 use Rattle.octets.specs.Ipv6.{ip}
 use Rattle.octets.specs.declared.field.ByteField.{ByteField}
 use Rattle.octets.specs.declared.field.WordField.{WordField}
+use Rattle.octets.specs.declared.ipv6.Ipv6Addr.{Ipv6Addr}
 use Rattle.ieee802154.specs.Mac as Mac
 use Rattle.ieee802154.specs.declared.addr.AddressField.{AddressField}
 use Rattle.ieee802154.specs.declared.addr.PanField.{PanField}
@@ -17,8 +18,11 @@ use Rattle.sixlowpan.specs.declared.protocol.NextHeader.the-variants.{Compresse
 use Rattle.iphc.specs.Emit as Iphc
 use Rattle.iphc.specs.declared.label.LabelField.{LabelField}
 use Rattle.iphc.specs.declared.header.Repr.{Repr}
+use Rattle.expand.specs.Sum.{noSum, carriedAt}
+use Rattle.expand.specs.declared.checksum.UdpSum.{UdpSum}
 use Rattle.cutting.specs.Fields.{orZero, isUdp}
 use Rattle.cutting.specs.declared.link.Link.{Link}
+use Rattle.cutting.specs.declared.head.Head.{Head}
 
 -- ---- the MAC header: Data, version 0, PAN compressed, every other bit clear
 abbrev pub macOf : Link → MacHeader.Repr
@@ -79,3 +83,17 @@ headLength l d = Iphc.lengthOf (ipOf l d) + udpPartLength d
 -- how many bytes of the datagram they stand for
 unfoldable pub covers : List ℕ → ℕ
 covers d = choose (isUdp d) 48 40
+
+-- what a receiver remembers of the checksum: that it was carried, where UDP is compressed
+unfoldable pub sumSent : List ℕ → UdpSum
+sumSent d = choose (isUdp d) (carriedAt 0 40) noSum
+
+-- ---- what is read and measured once in a call, and handed on
+abbrev pub srcOf : List ℕ → Ipv6Addr
+srcOf d = ip (orZero (be64 d 8)) (orZero (be64 d 16))
+
+abbrev pub dstOf : List ℕ → Ipv6Addr
+dstOf d = ip (orZero (be64 d 24)) (orZero (be64 d 32))
+
+unfoldable pub headOf : Link → List ℕ → Head
+headOf l d = record { src = srcOf d; dst = dstOf d; udp = isUdp d; len = headLength l d }

@@ -2,3 +2,4 @@ pub mod Fields
 pub mod Head
 pub mod Pieces
 pub mod Cut
+pub mod Allowed

@@ -1,10 +1,11 @@
 // What a frame says beside the datagram, and the MAC header.
 ghost use mathlib.Core.Path.{_≡_};
+ghost use Prim.Native.Nat.{_≤_};
+ghost use lib.ListN.{length};
 ghost use Rattle.octets.specs.Write.{put};
-ghost use Rattle.cutting.specs.Head.{macOf, macBytes};
+ghost use Rattle.cutting.specs.Head.{macOf, macLength, macBytes};
 ghost use Rattle.ieee802154.specs.Address.{isPresent};
 ghost use Rattle.cutting.specs.Cut.{hasBoth};
-use expand::copy::put_part;
 use ieee802154::Address;
 use ieee802154::AddressField;
 use ieee802154::FrameType;
@@ -69,12 +70,10 @@ pub fn mac_of(l: Link) -> ieee802154::Repr
 }
 
 // Puts the MAC header at the front.
-pub fn put_mac(buf: &mut [u8], l: Link)
+pub(crate) fn put_mac(buf: &mut [u8], l: Link)
+    requires { ⌜ macLength l ≤ length (now buf) ⌝ }
     ensures { λ _. ⌜ now (buf .exit) ≡ put 0 (macBytes l) (now (buf .entry)) ⌝ }
 {
     let h = mac_of(l);
-    let n = h.buffer_len();
-    let mut s = [0; 23];
-    h.emit(&mut s);
-    put_part(buf, 0, &s, 0, n);
+    h.emit(buf);
 }

@@ -1,14 +1,17 @@
 // The frames of a datagram.
 ghost use mathlib.Core.Path.{_≡_};
-ghost use Prim.Native.Nat.{_≤_, min};
+ghost use Prim.Native.Nat.{_+_, _≤_, min};
 ghost use lib.ListN.{length};
 ghost use Rattle.octets.specs.Write.{ofWritten, wrote, over, put};
-ghost use Rattle.sixlowpan.specs.Frag.{bytesOf};
-ghost use Rattle.cutting.specs.Cut.{planOf, middle, partOf, frameOf, inRange, cutFrame, cutCount, answered, written, ofCounted};
+ghost use Rattle.sixlowpan.specs.Frag.{bytesOf, lengthOf};
+ghost use Rattle.cutting.specs.Head.{headOf, covers};
+ghost use Rattle.cutting.specs.Cut.{planOf, middle, middleLength, partOf, partAt, frameOf};
+ghost use Rattle.cutting.specs.Cut.{inRange, cutFrame, cutCount, answered, written, ofCounted};
 ghost use Rattle.cutting.specs.Pieces.{Sane};
 use super::fields::is_ours;
+use super::head::Head;
 use super::head::covers;
-use super::head::head_len;
+use super::head::head_of;
 use super::head::put_head;
 use super::link::Link;
 use super::link::has_both;
@@ -49,17 +52,17 @@ fn in_range(d: &[u8], l: Link) -> bool
     limit <= 127
 }
 
-fn plan_of(d: &[u8], l: Link) -> Plan
+fn plan_of(d: &[u8], l: Link, h: Head) -> Plan
     requires { ⌜ (40 ≤ length (now d)) × (length (now d) ≤ 2047) × (80 ≤ l .limit) × (l .limit ≤ 127) ⌝ }
+    requires { ⌜ h ≡ headOf l (now d) ⌝ }
     ensures { λ r. ⌜ (r ≡ planOf l (now (d .entry))) × Sane r ⌝ }
 {
     let mac = mac_of(l).buffer_len();
-    let head = head_len(d, l);
-    let covers = covers(d);
+    let covers = covers(h.udp);
     let size = d.len();
     Plan {
         mac,
-        head,
+        head: h.len,
         covers,
         size,
         limit: l.limit,
@@ -67,12 +70,11 @@ fn plan_of(d: &[u8], l: Link) -> Plan
 }
 
 fn put_frag(buf: &mut [u8], at: usize, h: Repr)
+    requires { ⌜ at + lengthOf h ≤ length (now buf) ⌝ }
     ensures { λ _. ⌜ now (buf .exit) ≡ put at (bytesOf h) (now (buf .entry)) ⌝ }
 {
-    let n = h.buffer_len();
-    let mut s = [0; 5];
-    h.emit(&mut s);
-    put_part(buf, at, &s, 0, n);
+    let end = at + h.buffer_len();
+    h.emit(&mut buf[at..end]);
 }
 
 fn least(a: usize, b: usize) -> usize
@@ -81,37 +83,52 @@ fn least(a: usize, b: usize) -> usize
     if a <= b { a } else { b }
 }
 
-fn middle_len(d: &[u8], l: Link, p: Piece) -> usize
-    ensures { λ r. ⌜ (r ≡ length (middle l (now (d .entry)) p)) × (r ≤ 47) ⌝ }
+fn middle_len(head: usize, p: Piece) -> usize
+    requires { ⌜ head ≤ 43 ⌝ }
+    ensures { λ r. ⌜ (r ≡ middleLength head p) × (r ≤ 47) ⌝ }
 {
     match p {
-        Piece::Whole => head_len(d, l),
-        Piece::First(_) => 4 + head_len(d, l),
+        Piece::Whole => head,
+        Piece::First(_) => 4 + head,
         Piece::Later(_, _) => 5,
     }
 }
 
-fn part_len(d: &[u8], p: Piece) -> usize
-    ensures { λ r. ⌜ (r ≡ length (partOf (now (d .entry)) p)) × (r ≤ length (now (d .entry))) ⌝ }
+// Where the part begins in the datagram.
+fn part_at(covers: usize, p: Piece) -> usize
+    ensures { λ r. ⌜ r ≡ partAt covers p ⌝ }
 {
     match p {
-        Piece::Whole => left(d, covers(d)),
-        Piece::First(n) => least(n, left(d, covers(d))),
-        Piece::Later(at, n) => least(n, left(d, at)),
+        Piece::Whole => covers,
+        Piece::First(_) => covers,
+        Piece::Later(at, _) => at,
     }
 }
 
-fn put_middle(buf: &mut [u8], at: usize, d: &[u8], l: Link, p: Piece)
-    requires { ⌜ (at ≤ 23) × (length (now d) ≤ 2047) ⌝ }
+fn part_len(d: &[u8], from: usize, p: Piece) -> usize
+    requires { ⌜ from ≡ partAt (covers (now d)) p ⌝ }
+    ensures { λ r. ⌜ (r ≡ length (partOf (now (d .entry)) p)) × (r ≤ length (now (d .entry))) ⌝ }
+{
+    let rest = left(d, from);
+    match p {
+        Piece::Whole => rest,
+        Piece::First(n) => least(n, rest),
+        Piece::Later(_, n) => least(n, rest),
+    }
+}
+
+fn put_middle(buf: &mut [u8], at: usize, d: &[u8], h: Head, l: Link, p: Piece)
+    requires { ⌜ (length (now d) ≤ 2047) × (h ≡ headOf l (now d)) ⌝ }
+    requires { ⌜ at + length (middle l (now d) p) ≤ length (now buf) ⌝ }
     ensures { λ _. ⌜ now (buf .exit) ≡ put at (middle l (now (d .entry)) p) (now (buf .entry)) ⌝ }
 {
     let size = d.len() as u16;
     let tag = l.tag;
     match p {
-        Piece::Whole => put_head(buf, at, d, l),
+        Piece::Whole => put_head(buf, at, d, h, l),
         Piece::First(_) => {
             put_frag(buf, at, Repr::FirstFragment { size, tag });
-            put_head(buf, at + 4, d, l);
+            put_head(buf, at + 4, d, h, l);
         }
         Piece::Later(from, _) => {
             let offset = Units((from / 8 % 256) as u8);
@@ -120,30 +137,21 @@ fn put_middle(buf: &mut [u8], at: usize, d: &[u8], l: Link, p: Piece)
     }
 }
 
-fn put_rest(buf: &mut [u8], at: usize, d: &[u8], p: Piece)
-    ensures { λ _. ⌜ now (buf .exit) ≡ put at (partOf (now (d .entry)) p) (now (buf .entry)) ⌝ }
-{
-    match p {
-        Piece::Whole => put_part(buf, at, d, covers(d), d.len()),
-        Piece::First(n) => put_part(buf, at, d, covers(d), n),
-        Piece::Later(from, n) => put_part(buf, at, d, from, n),
-    }
-}
-
 // Writes the frame of a piece.
-fn write_piece(d: &[u8], l: Link, p: Piece, out: &mut [u8]) -> Written
-    requires { ⌜ length (now d) ≤ 2047 ⌝ }
+fn write_piece(d: &[u8], l: Link, h: Head, plan: Plan, p: Piece, out: &mut [u8]) -> Written
+    requires { ⌜ (length (now d) ≤ 2047) × (h ≡ headOf l (now d)) × (plan ≡ planOf l (now d)) ⌝ }
     ensures { λ r. ⌜ (ofWritten r ≡ wrote (length (frameOf l (now (d .entry)) p)) (now (out .entry))) × (now (out .exit) ≡ over (length (frameOf l (now (d .entry)) p)) (frameOf l (now (d .entry)) p) (now (out .entry))) ⌝ }
 {
-    let mac = mac_of(l).buffer_len();
-    let middle = middle_len(d, l, p);
-    let n = mac + (middle + part_len(d, p));
+    let middle = middle_len(plan.head, p);
+    let from = part_at(plan.covers, p);
+    let part = part_len(d, from, p);
+    let n = plan.mac + (middle + part);
     if out.len() < n {
         return Written::Refused(Refusal::NoRoom);
     }
     put_mac(out, l);
-    put_middle(out, mac, d, l, p);
-    put_rest(out, mac + middle, d, p);
+    put_middle(out, plan.mac, d, h, l, p);
+    put_part(out, plan.mac + middle, d, from, part);
     Written::Bytes(n)
 }
 
@@ -154,8 +162,10 @@ fn write_frame(d: &[u8], l: Link, k: u16, out: &mut [u8]) -> Written
 {
     if has_both(l) {
         if is_ours(d) {
-            match piece_at(plan_of(d, l), k) {
-                PieceAnswer::Is(p) => write_piece(d, l, p, out),
+            let h = head_of(d, l);
+            let plan = plan_of(d, l, h);
+            match piece_at(plan, k) {
+                PieceAnswer::Is(p) => write_piece(d, l, h, plan, p, out),
                 PieceAnswer::Refused(e) => Written::Refused(e),
             }
         } else {
@@ -184,7 +194,8 @@ fn count_frames(d: &[u8], l: Link) -> Counted
 {
     if has_both(l) {
         if is_ours(d) {
-            Counted::Frames(count_pieces(plan_of(d, l)))
+            let h = head_of(d, l);
+            Counted::Frames(count_pieces(plan_of(d, l, h)))
         } else {
             Counted::Refused(Refusal::NotCut)
         }

@@ -1,11 +1,11 @@
+use Prim.Native.Nat.{_+_}
+use native.Mathlib.Omega.{arith}
+use mathlib.Core.Path.{ap}
 use Rattle.sixlowpan.proofs.NhcPuts.{length-udp}
-use Rattle.cutting.proofs.HeadLaws.{put-emitted, udp-most, put-udp-there, put-udp-none}
+use Rattle.cutting.proofs.HeadLaws.{put-emitted, udp-len-there, put-udp-there, put-udp-none}
 use borrow.Author.Needs.{needs}
 use Rattle.cutting.proofs.head.put_udp.Statement.{statement}
 use Rattle.cutting.proofs.head.put_udp.Tie as tie
-
-is-udp-requires : tie.Need-is-udp-requires
-is-udp-requires c κs = search needs
 
 udp-of-requires : tie.Need-udp-of-requires
 udp-of-requires c κs = search needs
@@ -13,38 +13,42 @@ udp-of-requires c κs = search needs
 buffer-len-requires : tie.Need-buffer-len-requires
 buffer-len-requires c κs = search needs
 
-slice-aggregate-emit : tie.Need-slice-aggregate-emit
-slice-aggregate-emit c = search needs
+add-end : tie.Need-add-end
+add-end c = let k = udp-len-there _ _ _ _ (c .before .before .before .before .before .pre .0) (c .before .before .if1 .taken) (c .buffer-len .ensures) (c .before .udp-of .ensures) in omega arith
+
+sub-emit : tie.Need-sub-emit
+sub-emit c = search needs
+
+part-emit-start : tie.Need-part-emit-start
+part-emit-start c = search needs
+
+part-emit-end : tie.Need-part-emit-end
+part-emit-end c = let k = udp-len-there _ _ _ _ (c .before .before .before .before .before .pre .0) (c .before .before .if1 .taken) (c .buffer-len .ensures) (c .before .udp-of .ensures) in omega arith
 
 emit-requires : tie.Need-emit-requires
 emit-requires c κs = search needs
-
-slice-aggregate-put-part : tie.Need-slice-aggregate-put-part
-slice-aggregate-put-part c = search needs
-
-put-part-requires : tie.Need-put-part-requires
-put-part-requires c κs = search needs
 
 same-length : tie.Need-same-length
 same-length c = search needs
 
 returns : tie.Need-returns
-returns c = put-udp-there _ _ _ _ _ _ (c .before .before .before .before .before .before .before .before .before .before .before .is-udp .ensures) (c .before .before .before .before .before .before .before .before .before .before .if1 .taken) (c .before .before .before .before .before .before .before .before .before .udp-of .ensures) (put-emitted 7 _ _ _ _ _ _ _ (length-udp (c .before .before .before .before .before .before .before .before .before .udp-of .result)) (udp-most (c .before .before .before .before .before .before .before .before .before .udp-of .result)) (c .before .before .before .before .before .before .before .before .buffer-len .ensures) (c .before .before .before .before .before .before .emit .ensures .1) (c .before .before .put-part .ensures))
+returns c = let k = udp-len-there _ _ _ _ (c .before .before .before .before .before .before .before .before .before .pre .0) (c .before .before .before .before .before .before .if1 .taken) (c .before .before .before .before .buffer-len .ensures) (c .before .before .before .before .before .udp-of .ensures) in
+    put-udp-there _ _ _ _ _ _ (c .before .before .before .before .before .before .before .before .before .pre .0) (c .before .before .before .before .before .before .if1 .taken) (c .before .before .before .before .before .udp-of .ensures) (put-emitted _ _ _ _ _ _ (length-udp (c .before .before .before .before .before .udp-of .result)) (ap (λ z. c .before .before .before .before .before .before .before .before .before .args .at + z) (c .before .before .before .before .buffer-len .ensures)) (omega arith) (c .before .before .emit .ensures .1))
 
 returns-2 : tie.Need-returns-2
-returns-2 c = put-udp-none _ _ _ _ (c .before .is-udp .ensures) (c .if1 .left)
+returns-2 c = put-udp-none _ _ _ _ (c .before .before .before .pre .0) (c .if1 .left)
 
 pub put-udp-spec : {M : Type 1} → statement M
 put-udp-spec =
     tie.close
     (tie.spec
-    is-udp-requires
     udp-of-requires
     buffer-len-requires
-    slice-aggregate-emit
+    add-end
+    sub-emit
+    part-emit-start
+    part-emit-end
     emit-requires
-    slice-aggregate-put-part
-    put-part-requires
     same-length
     returns
     returns-2)

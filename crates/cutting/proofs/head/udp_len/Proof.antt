@@ -3,9 +3,6 @@ use borrow.Author.Needs.{needs}
 use Rattle.cutting.proofs.head.udp_len.Statement.{statement}
 use Rattle.cutting.proofs.head.udp_len.Tie as tie
 
-is-udp-requires : tie.Need-is-udp-requires
-is-udp-requires c κs = search needs
-
 udp-of-requires : tie.Need-udp-of-requires
 udp-of-requires c κs = search needs
 
@@ -13,11 +10,10 @@ buffer-len-requires : tie.Need-buffer-len-requires
 buffer-len-requires c κs = search needs
 
 returns : tie.Need-returns
-returns c = udp-len-there _ _ _ _ (c .before .before .before .is-udp .ensures) (c .before .before .if1 .taken) (c .buffer-len .ensures) (c .before .udp-of .ensures)
+returns c = udp-len-there _ _ _ _ (c .before .before .before .before .pre) (c .before .before .if1 .taken) (c .buffer-len .ensures) (c .before .udp-of .ensures)
 
 returns-2 : tie.Need-returns-2
-returns-2 c = udp-len-none _ _ (c .before .is-udp .ensures) (c .if1 .left)
+returns-2 c = udp-len-none _ _ (c .before .before .pre) (c .if1 .left)
 
 pub udp-len-spec : {M : Type 1} → statement M
-udp-len-spec =
-    tie.close (tie.spec is-udp-requires udp-of-requires buffer-len-requires returns returns-2)
+udp-len-spec = tie.close (tie.spec udp-of-requires buffer-len-requires returns returns-2)

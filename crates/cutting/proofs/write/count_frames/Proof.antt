@@ -9,6 +9,9 @@ has-both-requires c κs = search needs
 is-ours-requires : tie.Need-is-ours-requires
 is-ours-requires c κs = search needs
 
+head-of-requires : tie.Need-head-of-requires
+head-of-requires c κs = search needs
+
 plan-of-requires : tie.Need-plan-of-requires
 plan-of-requires c κs = search needs
 
@@ -16,7 +19,7 @@ count-pieces-requires : tie.Need-count-pieces-requires
 count-pieces-requires c κs = search needs
 
 returns : tie.Need-returns
-returns c = count-all _ _ _ _ _ _ (c .before .before .before .before .before .before .before .pre) (c .before .before .before .before .before .has-both .ensures) (c .before .before .before .before .if1 .taken) (c .before .before .before .is-ours .ensures) (c .before .before .if2 .taken) (c .before .plan-of .ensures .0) (c .count-pieces .ensures)
+returns c = count-all _ _ _ _ _ _ (c .before .before .before .before .before .before .before .before .pre) (c .before .before .before .before .before .before .has-both .ensures) (c .before .before .before .before .before .if1 .taken) (c .before .before .before .before .is-ours .ensures) (c .before .before .before .if2 .taken) (c .before .plan-of .ensures .0) (c .count-pieces .ensures)
 
 returns-2 : tie.Need-returns-2
 returns-2 c = count-ours _ _ _ _ (c .before .before .before .before .before .pre) (c .before .before .before .has-both .ensures) (c .before .before .if1 .taken) (c .before .is-ours .ensures) (c .if2 .left)
@@ -30,6 +33,7 @@ count-frames-spec =
     (tie.spec
     has-both-requires
     is-ours-requires
+    head-of-requires
     plan-of-requires
     count-pieces-requires
     returns

@@ -9,16 +9,11 @@ mac-of-requires c κs = search needs
 buffer-len-requires : tie.Need-buffer-len-requires
 buffer-len-requires c κs = search needs
 
-head-len-requires : tie.Need-head-len-requires
-head-len-requires c κs = search needs
-
 covers-requires : tie.Need-covers-requires
 covers-requires c κs = search needs
 
 returns : tie.Need-returns
-returns c = plan-told _ _ _ _ _ _ (c .before .before .before .mac-of .ensures) (c .before .before .buffer-len .ensures) (c .before .head-len .ensures .0) (c .covers .ensures) (c .before .before .before .before .before .pre .0) (c .before .before .before .before .before .pre .1) (c .before .before .before .before .before .pre .2) (c .before .before .before .before .before .pre .3)
+returns c = plan-told _ _ (c .before .before .before .before .args .h) _ _ _ (c .before .before .before .before .pre .1) (c .before .before .mac-of .ensures) (c .before .buffer-len .ensures) (c .covers .ensures) (c .before .before .before .before .pre .0 .0) (c .before .before .before .before .pre .0 .1) (c .before .before .before .before .pre .0 .2) (c .before .before .before .before .pre .0 .3)
 
 pub plan-of-spec : {M : Type 1} → statement M
-plan-of-spec =
-    tie.close
-    (tie.spec mac-of-requires buffer-len-requires head-len-requires covers-requires returns)
+plan-of-spec = tie.close (tie.spec mac-of-requires buffer-len-requires covers-requires returns)

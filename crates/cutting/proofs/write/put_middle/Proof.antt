@@ -1,4 +1,6 @@
-use Rattle.cutting.proofs.WriteLaws.{put-middle-whole, put-middle-first, put-middle-later}
+use denote.Ref.{now}
+use native.Mathlib.Omega.{arith}
+use Rattle.cutting.proofs.WriteLaws.{room-whole, room-first, room-later, put-middle-whole, put-middle-first, put-middle-later}
 use borrow.Author.Needs.{needs}
 use Rattle.cutting.proofs.write.put_middle.Statement.{statement}
 use Rattle.cutting.proofs.write.put_middle.Tie as tie
@@ -10,28 +12,28 @@ enum-told : tie.Need-enum-told
 enum-told c = search needs
 
 put-head-requires : tie.Need-put-head-requires
-put-head-requires c κs = search needs
+put-head-requires c κs = (c .before .before .before .before .before .pre .0 .1, room-whole (c .before .before .before .before .before .args .l) (now (c .before .before .before .before .before .args .d)) (c .before .before .before .before .before .args .p) (c .before .before .before .before .before .args .at) (now (c .before .before .before .before .before .args .buf)) (c .before .before .before .before .before .pre .1) (c .before .enum-told .given .1))
 
 enum-told-2 : tie.Need-enum-told-2
 enum-told-2 c = search needs
 
 put-frag-requires : tie.Need-put-frag-requires
-put-frag-requires c κs = search needs
+put-frag-requires c κs = let r = room-first (c .before .before .before .before .before .args .l) (now (c .before .before .before .before .before .args .d)) (c .before .before .before .before .before .args .p) (c .before .before .before .before .before .args .at) (now (c .before .before .before .before .before .args .buf)) (c .before .before .before .before .before .pre .1) _ (c .before .enum-told2 .given .1) in omega arith
 
 add-put-head : tie.Need-add-put-head
 add-put-head c = search needs
 
 put-head-requires-2 : tie.Need-put-head-requires-2
-put-head-requires-2 c κs = search needs
+put-head-requires-2 c κs = let r = room-first (c .before .before .before .before .before .before .before .before .before .args .l) (now (c .before .before .before .before .before .before .before .before .before .args .d)) (c .before .before .before .before .before .before .before .before .before .args .p) (c .before .before .before .before .before .before .before .before .before .args .at) (now (c .before .before .before .before .before .before .before .before .before .args .buf)) (c .before .before .before .before .before .before .before .before .before .pre .1) _ (c .before .before .before .before .before .enum-told2 .given .1) in (c .before .before .before .before .before .before .before .before .before .pre .0 .1, omega arith)
 
 enum-known-p : tie.Need-enum-known-p
 enum-known-p c = search needs
 
-cast-t23 : tie.Need-cast-t23
-cast-t23 c = search needs
+cast-t24 : tie.Need-cast-t24
+cast-t24 c = search needs
 
 put-frag-requires-2 : tie.Need-put-frag-requires-2
-put-frag-requires-2 c κs = search needs
+put-frag-requires-2 c κs = room-later (c .before .before .before .before .before .before .args .l) (now (c .before .before .before .before .before .before .args .d)) (c .before .before .before .before .before .before .args .p) (c .before .before .before .before .before .before .args .at) (now (c .before .before .before .before .before .before .args .buf)) (c .before .before .before .before .before .before .pre .1) _ _ (c .before .before .p .given .1)
 
 same-length : tie.Need-same-length
 same-length c = search needs
@@ -63,7 +65,7 @@ put-middle-spec =
     add-put-head
     put-head-requires-2
     enum-known-p
-    cast-t23
+    cast-t24
     put-frag-requires-2
     same-length
     returns

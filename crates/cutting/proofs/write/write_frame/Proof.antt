@@ -9,6 +9,9 @@ has-both-requires c κs = search needs
 is-ours-requires : tie.Need-is-ours-requires
 is-ours-requires c κs = search needs
 
+head-of-requires : tie.Need-head-of-requires
+head-of-requires c κs = search needs
+
 plan-of-requires : tie.Need-plan-of-requires
 plan-of-requires c κs = search needs
 
@@ -28,10 +31,10 @@ same-length : tie.Need-same-length
 same-length c = search needs
 
 returns : tie.Need-returns
-returns c = of-piece _ _ _ _ _ _ _ _ _ _ _ (c .before .before .before .before .before .before .before .before .before .before .before .before .before .before .before .pre) (c .before .before .before .before .before .before .before .before .before .before .before .before .has-both .ensures) (c .before .before .before .before .before .before .before .before .before .before .before .if1 .taken) (c .before .before .before .before .before .before .before .before .before .before .is-ours .ensures) (c .before .before .before .before .before .before .before .before .before .if2 .taken) (c .before .before .before .before .before .before .before .before .plan-of .ensures .0) (c .before .before .before .before .before .before .before .piece-at .ensures) (c .before .before .before .before .before .p .given .1) (c .before .before .write-piece .ensures .0) (c .before .before .write-piece .ensures .1)
+returns c = of-piece _ _ _ _ _ _ _ _ _ _ _ (c .before .before .before .before .before .before .before .before .before .before .before .before .before .before .before .before .pre) (c .before .before .before .before .before .before .before .before .before .before .before .before .before .has-both .ensures) (c .before .before .before .before .before .before .before .before .before .before .before .before .if1 .taken) (c .before .before .before .before .before .before .before .before .before .before .before .is-ours .ensures) (c .before .before .before .before .before .before .before .before .before .before .if2 .taken) (c .before .before .before .before .before .before .before .before .plan-of .ensures .0) (c .before .before .before .before .before .before .before .piece-at .ensures) (c .before .before .before .before .before .p .given .1) (c .before .before .write-piece .ensures .0) (c .before .before .write-piece .ensures .1)
 
 returns-2 : tie.Need-returns-2
-returns-2 c = past-last _ _ _ _ _ _ _ _ _ (c .before .before .before .before .before .before .before .before .before .before .before .pre) (c .before .before .before .before .before .before .before .before .has-both .ensures) (c .before .before .before .before .before .before .before .if1 .taken) (c .before .before .before .before .before .before .is-ours .ensures) (c .before .before .before .before .before .if2 .taken) (c .before .before .before .before .plan-of .ensures .0) (c .before .before .before .piece-at .ensures) (c .before .e .given .1)
+returns-2 c = past-last _ _ _ _ _ _ _ _ _ (c .before .before .before .before .before .before .before .before .before .before .before .before .pre) (c .before .before .before .before .before .before .before .before .before .has-both .ensures) (c .before .before .before .before .before .before .before .before .if1 .taken) (c .before .before .before .before .before .before .before .is-ours .ensures) (c .before .before .before .before .before .before .if2 .taken) (c .before .before .before .before .plan-of .ensures .0) (c .before .before .before .piece-at .ensures) (c .before .e .given .1)
 
 returns-3 : tie.Need-returns-3
 returns-3 c = not-ours _ _ _ _ _ _ (c .before .before .before .before .before .before .pre) (c .before .before .before .has-both .ensures) (c .before .before .if1 .taken) (c .before .is-ours .ensures) (c .if2 .left)
@@ -45,6 +48,7 @@ write-frame-spec =
     (tie.spec
     has-both-requires
     is-ours-requires
+    head-of-requires
     plan-of-requires
     piece-at-requires
     enum-known-p

@@ -1,63 +1,60 @@
+use denote.Ref.{now}
 use native.Mathlib.Omega.{arith}
-use Rattle.ieee802154.proofs.WriteSteps.{length-most}
-use Rattle.cutting.proofs.WriteLaws.{frame-short, frame-there}
+use Rattle.cutting.proofs.HeadLaws.{head-most}
+use Rattle.cutting.proofs.WriteLaws.{plan-mac, plan-head, mac-most, middle-told, part-told, frame-short, frame-there}
 use borrow.Author.Needs.{needs}
 use Rattle.cutting.proofs.write.write_piece.Statement.{statement}
 use Rattle.cutting.proofs.write.write_piece.Tie as tie
 
-mac-of-requires : tie.Need-mac-of-requires
-mac-of-requires c κs = search needs
-
-buffer-len-requires : tie.Need-buffer-len-requires
-buffer-len-requires c κs = search needs
-
 middle-len-requires : tie.Need-middle-len-requires
-middle-len-requires c κs = search needs
+middle-len-requires c κs = let h = plan-head _ _ (c .before .before .args .plan) (c .before .before .pre .2) in omega (arith, head-most (c .before .before .args .l) (now (c .before .before .args .d)))
+
+part-at-requires : tie.Need-part-at-requires
+part-at-requires c κs = search needs
 
 part-len-requires : tie.Need-part-len-requires
-part-len-requires c κs = search needs
+part-len-requires c κs = part-told (c .before .before .before .before .args .l) (now (c .before .before .before .before .args .d)) (c .before .before .before .before .args .plan) (c .before .before .before .before .pre .2) (c .before .before .before .before .args .p) _ (c .part-at .ensures)
 
 add-n : tie.Need-add-n
 add-n c = search needs
 
 add-n-2 : tie.Need-add-n-2
-add-n-2 c = omega (arith, length-most (c .before .before .before .mac-of .result))
+add-n-2 c = let m = plan-mac _ _ (c .before .before .before .before .before .before .args .plan) (c .before .before .before .before .before .before .pre .2) in omega (arith, mac-most (c .before .before .before .before .before .before .args .l))
 
 returns : tie.Need-returns
-returns c = frame-short _ _ _ _ _ _ _ _ (c .before .before .before .before .mac-of .ensures) (c .before .before .before .buffer-len .ensures) (c .before .before .middle-len .ensures .0) (c .before .part-len .ensures .0) (c .if1 .taken)
+returns c = frame-short _ _ _ _ _ _ _ (plan-mac _ _ (c .before .before .before .before .before .before .before .args .plan) (c .before .before .before .before .before .before .before .pre .2)) (middle-told (c .before .before .before .before .before .before .before .args .l) (now (c .before .before .before .before .before .before .before .args .d)) (c .before .before .before .before .before .before .before .args .plan) (c .before .before .before .before .before .before .before .pre .2) (c .before .before .before .before .before .before .before .args .p) _ (c .before .before .before .before .middle-len .ensures .0)) (c .before .before .part-len .ensures .0) (c .if1 .taken)
 
 put-mac-requires : tie.Need-put-mac-requires
-put-mac-requires c κs = search needs
+put-mac-requires c κs = let m = plan-mac _ _ (c .before .before .before .before .before .before .before .before .args .plan) (c .before .before .before .before .before .before .before .before .pre .2) in omega arith
 
 put-middle-requires : tie.Need-put-middle-requires
-put-middle-requires c κs = omega (arith, length-most (c .before .before .before .before .before .before .before .before .before .mac-of .result))
+put-middle-requires c κs = let m = middle-told (c .before .before .before .before .before .before .before .before .before .before .before .before .args .l) (now (c .before .before .before .before .before .before .before .before .before .before .before .before .args .d)) (c .before .before .before .before .before .before .before .before .before .before .before .before .args .plan) (c .before .before .before .before .before .before .before .before .before .before .before .before .pre .2) (c .before .before .before .before .before .before .before .before .before .before .before .before .args .p) _ (c .before .before .before .before .before .before .before .before .before .middle-len .ensures .0) in ((c .before .before .before .before .before .before .before .before .before .before .before .before .pre .0, c .before .before .before .before .before .before .before .before .before .before .before .before .pre .1), omega arith)
 
-add-put-rest : tie.Need-add-put-rest
-add-put-rest c = search needs
+add-put-part : tie.Need-add-put-part
+add-put-part c = let m = plan-mac _ _ (c .before .before .before .before .before .before .before .before .before .before .before .before .before .before .before .before .before .args .plan) (c .before .before .before .before .before .before .before .before .before .before .before .before .before .before .before .before .before .pre .2) in omega (arith, mac-most (c .before .before .before .before .before .before .before .before .before .before .before .before .before .before .before .before .before .args .l))
 
-put-rest-requires : tie.Need-put-rest-requires
-put-rest-requires c κs = search needs
+put-part-requires : tie.Need-put-part-requires
+put-part-requires c κs = search needs
 
 same-length : tie.Need-same-length
 same-length c = search needs
 
 returns-2 : tie.Need-returns-2
-returns-2 c = frame-there _ _ _ _ _ _ _ _ (c .before .before .before .before .before .before .before .before .before .before .before .before .before .before .before .before .mac-of .ensures) (c .before .before .before .before .before .before .before .before .before .before .before .before .before .before .before .buffer-len .ensures) (c .before .before .before .before .before .before .before .before .before .before .before .before .before .before .middle-len .ensures .0) (c .before .before .before .before .before .before .before .before .before .before .before .before .before .part-len .ensures .0) _ _ _ (c .before .before .before .before .before .before .before .before .before .before .before .before .if1 .left) (c .before .before .before .before .before .before .before .before .before .before .put-mac .ensures) (c .before .before .before .before .before .before .put-middle .ensures) (c .before .before .put-rest .ensures)
+returns-2 c = frame-there _ _ _ _ _ _ _ (plan-mac _ _ (c .before .before .before .before .before .before .before .before .before .before .before .before .before .before .before .before .before .before .before .before .args .plan) (c .before .before .before .before .before .before .before .before .before .before .before .before .before .before .before .before .before .before .before .before .pre .2)) (middle-told (c .before .before .before .before .before .before .before .before .before .before .before .before .before .before .before .before .before .before .before .before .args .l) (now (c .before .before .before .before .before .before .before .before .before .before .before .before .before .before .before .before .before .before .before .before .args .d)) (c .before .before .before .before .before .before .before .before .before .before .before .before .before .before .before .before .before .before .before .before .args .plan) (c .before .before .before .before .before .before .before .before .before .before .before .before .before .before .before .before .before .before .before .before .pre .2) (c .before .before .before .before .before .before .before .before .before .before .before .before .before .before .before .before .before .before .before .before .args .p) _ (c .before .before .before .before .before .before .before .before .before .before .before .before .before .before .before .before .before .middle-len .ensures .0)) (c .before .before .before .before .before .before .before .before .before .before .before .before .before .before .before .part-len .ensures .0) _ _ _ _ (part-told (c .before .before .before .before .before .before .before .before .before .before .before .before .before .before .before .before .before .before .before .before .args .l) (now (c .before .before .before .before .before .before .before .before .before .before .before .before .before .before .before .before .before .before .before .before .args .d)) (c .before .before .before .before .before .before .before .before .before .before .before .before .before .before .before .before .before .before .before .before .args .plan) (c .before .before .before .before .before .before .before .before .before .before .before .before .before .before .before .before .before .before .before .before .pre .2) (c .before .before .before .before .before .before .before .before .before .before .before .before .before .before .before .before .before .before .before .before .args .p) _ (c .before .before .before .before .before .before .before .before .before .before .before .before .before .before .before .before .part-at .ensures)) (c .before .before .before .before .before .before .before .before .before .before .before .before .before .if1 .left) (c .before .before .before .before .before .before .before .before .before .before .before .put-mac .ensures) (c .before .before .before .before .before .before .before .put-middle .ensures) (c .before .before .put-part .ensures)
 
 pub write-piece-spec : {M : Type 1} → statement M
 write-piece-spec =
     tie.close
     (tie.spec
-    mac-of-requires
-    buffer-len-requires
     middle-len-requires
+    part-at-requires
     part-len-requires
     add-n
     add-n-2
     returns
     put-mac-requires
     put-middle-requires
-    add-put-rest
-    put-rest-requires
+    add-put-part
+    put-part-requires
     same-length
     returns-2)
