@@ -32,7 +32,7 @@ extern "C" {
 
 /* The version of this interface. It grows when a call, a size or the meaning of a number changes; a new name alone does not
  * count. The header and the archive of one release belong together. */
-#define LIFT_VERSION 2u
+#define LIFT_VERSION 3u
 
 /* The least bytes of mem and of out; with less a call answers LIFT_REFUSED with 7. */
 #define LIFT_MEM_BYTES 16384u
@@ -94,9 +94,11 @@ static inline uint32_t lift_begin(lift_table *t, const lift_gateway *gateways, l
  *
  *   LIFT_KEPT     0    the frame is a part of a datagram that is not whole yet, or the repeat of one. out is as it was.
  *   LIFT_OUT      L    a datagram of L bytes, 40 to 2,047, stands at the start of out; the rest of out is as it was.
- *   LIFT_REFUSED  R    the frame is refused for reason R, below. mem and out are as they were, to the last byte.
+ *   LIFT_REFUSED  R    the frame is refused for reason R, below. out is as it was, to the last byte, and so is mem. No refusal
+ *                      but 17 writes a lent byte: then the slot's memory keeps the part just written, and out is untouched.
  *
- * A refusal other than 7 and 8 takes the time too, and frees slots that are 60,000 ms old or older; 11 frees its slot. */
+ * A refusal other than 7 and 8 takes the time too, and frees slots that are 60,000 ms old or older; 11 and 17 free their slot.
+ * Version 2 of this interface did not test carried checksums, and had no 17. */
 uint32_t lift_receive(lift_table *t, uint64_t time, const uint8_t *frame, lift_len frame_len, const uint8_t *contexts,
                       lift_len contexts_len, uint8_t *mem, lift_len mem_len, uint8_t *out, lift_len out_len);
 
@@ -108,7 +110,7 @@ static inline uint32_t lift_kind(uint32_t answer) { return answer >> 16; }
 static inline uint32_t lift_number(uint32_t answer) { return answer & 0xffffu; }
 
 /* The reasons of a refusal: the product's numbers, each with its name. docs/REFUSALS.md says what usually causes each and what
- * to do. lift_receive gives 1 to 13, lift_begin 14, lift_cut and lift_frames 4, 6, 7, 10 and 16; the others belong to calls that are not in
+ * to do. lift_receive gives 1 to 13 and 17, lift_begin 14, lift_cut and lift_frames 4, 6, 7, 10 and 16; the others belong to calls that are not in
  * this header. */
 enum lift_refusal {
   LIFT_ENDED = 1,           /* the bytes end before a needed field */
@@ -123,10 +125,11 @@ enum lift_refusal {
   LIFT_BAD_PART = 10,       /* a part that no datagram can have */
   LIFT_CLASH = 11,          /* a part that clashes with bytes already taken; its slot is freed */
   LIFT_NO_SLOT = 12,        /* no slot may be opened for this gateway now */
-  LIFT_NOT_EXPANDED = 13,   /* secured, not a Data frame, or with an extension header that would have to be expanded */
+  LIFT_NOT_EXPANDED = 13,   /* secured, not a Data frame, or with a header that is not expanded */
   LIFT_BAD_GATEWAYS = 14,   /* a bad list of gateways */
   LIFT_BAD_BLOCK = 15,      /* a bad capture block */
   LIFT_NOT_CUT = 16,        /* a datagram that is not cut into frames */
+  LIFT_BAD_CHECKSUM = 17,   /* the datagram is whole, and the UDP checksum that it carries does not hold; its slot is freed */
   LIFT_NOT_HELD = 18        /* what no capture block can hold */
 };
 
@@ -145,10 +148,11 @@ static inline const char *lift_reason(uint32_t number) {
     case LIFT_BAD_PART: return "a part that no datagram can have";
     case LIFT_CLASH: return "the part clashes with bytes taken";
     case LIFT_NO_SLOT: return "no slot may be opened";
-    case LIFT_NOT_EXPANDED: return "secured, not a Data frame, or an extension header";
+    case LIFT_NOT_EXPANDED: return "secured, not a Data frame, or a header that is not expanded";
     case LIFT_BAD_GATEWAYS: return "the list of gateways is bad";
     case LIFT_BAD_BLOCK: return "a bad capture block";
     case LIFT_NOT_CUT: return "a datagram that is not cut into frames";
+    case LIFT_BAD_CHECKSUM: return "the checksum that the datagram carries does not hold";
     case LIFT_NOT_HELD: return "what no capture block can hold";
     default: return "?";
   }

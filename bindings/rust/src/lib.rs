@@ -107,7 +107,8 @@ pub enum Outcome<'o> {
     Out(&'o [u8]),
 }
 
-/// Why a call was refused. Memory for parts and output are then as they were. `docs/REFUSALS.md` says more of each.
+/// Why a call was refused. Memory for parts and output are then as they were, but for [`Refusal::BadChecksum`], where the
+/// memory keeps the part just written. `docs/REFUSALS.md` says more of each.
 #[derive(Clone, Copy, PartialEq, Eq, Debug)]
 #[non_exhaustive]
 pub enum Refusal {
@@ -135,17 +136,19 @@ pub enum Refusal {
     Clash,
     /// 12: no slot may be opened for this gateway now.
     NoSlot,
-    /// 13: secured, not a Data frame, or an extension header that would have to be expanded.
+    /// 13: secured, not a Data frame, or with a header that is not expanded.
     NotExpanded,
     /// 14: a list of gateways with over four, or two equal ones.
     BadGateways,
+    /// 17: the datagram is whole, and the UDP checksum that it carries does not hold; its slot is freed.
+    BadChecksum,
     /// A number that this version does not give.
     Other(u16),
 }
 
 impl Refusal {
     /// Each refusal, with its number and `lift_reason`'s words.
-    const ALL: [(Refusal, u16, &'static str); 14] = [
+    const ALL: [(Refusal, u16, &'static str); 15] = [
         (Refusal::Ended, 1, "the bytes end before a needed field"),
         (Refusal::NotThisHeader, 2, "the leading bits are not this header's"),
         (Refusal::Unsupported, 3, "a reserved or unsupported mode or version"),
@@ -158,8 +161,9 @@ impl Refusal {
         (Refusal::BadPart, 10, "a part that no datagram can have"),
         (Refusal::Clash, 11, "the part clashes with bytes taken"),
         (Refusal::NoSlot, 12, "no slot may be opened"),
-        (Refusal::NotExpanded, 13, "secured, not a Data frame, or an extension header"),
+        (Refusal::NotExpanded, 13, "secured, not a Data frame, or a header that is not expanded"),
         (Refusal::BadGateways, 14, "the list of gateways is bad"),
+        (Refusal::BadChecksum, 17, "the checksum that the datagram carries does not hold"),
     ];
 
     /// The refusal of a number.

@@ -41,7 +41,7 @@ fn lines(capture: &[u8]) -> String {
 
 #[test]
 fn captures_read_as_heard_reads_them() {
-    for name in ["two-gateways", "two-buildings", "patch", "damaged", "witness"] {
+    for name in ["two-gateways", "two-buildings", "patch", "damaged", "witness", "relay", "chain"] {
         let expected = String::from_utf8(example(&format!("{name}.expected"))).unwrap();
         assert_eq!(lines(&example(&format!("{name}.cap"))), expected, "{name}");
     }

@@ -2,18 +2,19 @@
 -- place before does not matter.
 use Prim.Native.Nat.{ℕ, _+_, _-_, _*_, _/_, _^_, _≤_, _<_}
 use native.Mathlib.Omega.{arith}
-use mathlib.Core.List.{List, _++_, append-assoc}
+use mathlib.Core.List.{List, [], _∷_, _++_, append-assoc}
 use mathlib.Core.Bool.{Bool, true, false}
-use mathlib.Core.Path.{_≡_, refl, sym, ap, _∙_}
-use lib.ListN.{length, take, drop, length-append, length-take, length-drop}
-use lib.Seq.{take-add, take-at, drop-at, drop-drop}
+use mathlib.Core.Path.{_≡_, refl, sym, ap, subst, _∙_}
+use native.Mathlib.Nat.{add-assoc}
+use lib.ListN.{length, set, take, drop, length-append, length-take, length-drop, take-append-drop}
+use lib.Seq.{take-add, take-at, drop-at, drop-drop, take-set-le, drop-set-add}
 use lib.Dec.{eqb}
 use borrow.Author.Tests.{eqb-true, eqb-false}
 use Rattle.octets.specs.Read.{choose}
 use Rattle.octets.specs.Write.{put, be16Bytes, be32Bytes}
-use Rattle.expand.specs.Sum.{words, onesSum, pseudo, covered, udpChecksum, summed, sumWords}
+use Rattle.expand.specs.Sum.{words, onesSum, pseudo, covered, udpChecksum, summed, seen, checksumAt, summedAt, sumWords}
 use Rattle.expand.proofs.CopyLaws.{put-inside, length-put}
-use Rattle.expand.proofs.SumLaws.{Bytes, norm, ones-norm, covered-bytes, covered-sum}
+use Rattle.expand.proofs.SumLaws.{Bytes, bytes-append, bytes-take, bytes-drop, norm, ones-norm, covered-bytes, covered-sum, length-seen}
 
 -- ---- a datagram whose checksum's place holds the two bytes bs
 abbrev front : List ℕ → List ℕ
@@ -93,10 +94,10 @@ unfolding summed be16Bytes
 summed-again d low bs two = rw (checksum-same d low bs two) (put-again d low bs (be16Bytes (udpChecksum d)) two refl)
 
 -- ---- all ones
-abbrev sent : ℕ → ℕ
+abbrev pub sent : ℕ → ℕ
 sent x = choose (eqb (0xffff - x) 0) 0xffff (0xffff - x)
 
-all-ones : (n : ℕ) → norm (n + sent (norm n)) ≡ 0xffff
+pub all-ones : (n : ℕ) → norm (n + sent (norm n)) ≡ 0xffff
 all-ones n = go (eqb (0xffff - norm n) 0) refl
   where
     go : (t : Bool) → eqb (0xffff - norm n) 0 ≡ t → norm (n + choose t 0xffff (0xffff - norm n)) ≡ 0xffff
@@ -115,7 +116,7 @@ unfolding udpChecksum
 checksum-fits d = sent-fits (onesSum (words (covered d 0)))
 
 module _ (d : List ℕ) (low : 48 ≤ length d) (high : length d ≤ 65575) (bytes : Bytes d) where
-  checksum-sent : udpChecksum d ≡ sent (norm (sumWords (covered d 0)))
+  pub checksum-sent : udpChecksum d ≡ sent (norm (sumWords (covered d 0)))
   unfolding udpChecksum
   checksum-sent = ap sent (ones-norm (covered d 0) (covered-bytes d low high 0 (omega arith) bytes))
 
@@ -136,3 +137,47 @@ checksum-holds d low high bytes =
     let f : covered (put 46 c d) (udpChecksum (put 46 c d)) ≡ covered d (udpChecksum d) = ap (λ x. covered (put 46 c d) x) (checksum-same d low c refl) ∙ covered-same d low c refl (udpChecksum d) in
     rw (pseudo-same d low c refl, behind-both d low c refl)
     (sym (ap (λ x. onesSum (words x)) f) ∙ covered-ones (put 46 c d) (omega arith) (omega arith) bytes)
+
+-- ---- with a UDP header at u and the IPv6 header just outside it at i
+drop-put : (n k : ℕ) (bs l : List ℕ) → drop n (put (n + k) bs l) ≡ put k bs (drop n l)
+unfolding put
+drop-put n k [] l = refl
+drop-put n k (b ∷ bs) l =
+    ap (λ z. drop n (put z bs (set l (n + k) b))) (add-assoc n k 1) ∙ drop-put n (k + 1) bs (set l (n + k) b) ∙ ap (put (k + 1) bs) (drop-set-add n l k b)
+
+take-put : (n k : ℕ) (bs l : List ℕ) → n ≤ k → take n (put k bs l) ≡ take n l
+unfolding put
+take-put n k [] l h = refl
+take-put n k (b ∷ bs) l h = take-put n (k + 1) bs (set l k b) (omega arith) ∙ take-set-le n l k b h
+
+-- in the second of two parts
+put-behind : (a x bs : List ℕ) (n k : ℕ) → length a ≡ n → k + length bs ≤ length x → put (n + k) bs (a ++ x) ≡ a ++ put k bs x
+put-behind a x bs n k e h =
+    let y = put (n + k) bs (a ++ x) in
+    let f : take n y ≡ a = take-put n (n + k) bs (a ++ x) (omega arith) ∙ take-at a x n e in
+    let g : drop n y ≡ put k bs x = drop-put n k bs (a ++ x) ∙ ap (put k bs) (drop-at a x n e) in
+    sym (take-append-drop n y) ∙ ap (λ z. z ++ drop n y) f ∙ ap (λ z. a ++ z) g
+
+module _ (i u : ℕ) (d : List ℕ) (apart : i + 40 ≤ u) (low : u + 8 ≤ length d) where
+  seen-put : (bs : List ℕ) → length bs ≡ 2 → seen i u (put (u + 6) bs d) ≡ put 46 bs (seen i u d)
+  unfolding seen
+  seen-put bs two =
+      let j : ℕ = u + 6 - i in
+      let e : u + 6 ≡ i + j = omega arith in
+      let a : take 40 (drop i (put (u + 6) bs d)) ≡ take 40 (drop i d) = ap (λ z. take 40 (drop i (put z bs d))) e ∙ ap (take 40) (drop-put i j bs d) ∙ take-put 40 j bs (drop i d) (omega arith) in
+      let la : length (take 40 (drop i d)) ≡ 40 = omega (arith, length-take 40 (drop i d), length-drop i d) in
+      rw (a, drop-put u 6 bs d) (sym (put-behind (take 40 (drop i d)) (drop u d) bs 40 6 la (omega (arith, two, length-drop u d))))
+
+  pub seen-summed : seen i u (summedAt i u d) ≡ summed (seen i u d)
+  unfolding summedAt checksumAt summed be16Bytes
+  seen-summed = seen-put (be16Bytes (udpChecksum (seen i u d))) refl
+
+pub bytes-seen : (i u : ℕ) (d : List ℕ) → Bytes d → Bytes (seen i u d)
+unfolding seen
+bytes-seen i u d b = bytes-append (take 40 (drop i d)) (drop u d) (bytes-take 40 (drop i d) (bytes-drop i d b)) (bytes-drop u d b)
+
+pub holds-at : (i u : ℕ) (d : List ℕ) → i + 40 ≤ u → u + 8 ≤ length d → length d ≤ u + 65535 → Bytes (summedAt i u d) → let x = seen i u (summedAt i u d) in onesSum (words (pseudo x ++ drop 40 x)) ≡ 0xffff
+holds-at i u d apart low high b =
+    let e = seen-summed i u d apart low in
+    let l = length-seen i u d apart low high in
+    ap (λ x. onesSum (words (pseudo x ++ drop 40 x))) e ∙ checksum-holds (seen i u d) (omega (arith, l)) (omega (arith, l)) (subst Bytes e (bytes-seen i u (summedAt i u d) b))

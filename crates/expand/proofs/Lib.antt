@@ -1,10 +1,15 @@
+pub mod Inverting
 pub mod Steps
 pub mod CopyLaws
 pub mod SumLaws
 pub mod FullLaws
 pub mod ExpandLaws
+pub mod ChainLaws
+pub mod HeadedLaws
 pub mod ChecksumLaws
-pub mod Datagrams
 pub mod Unique
-pub mod Examples
 pub mod Labels
+pub mod Datagrams
+pub mod Plain
+pub mod Examples
+pub mod Tested

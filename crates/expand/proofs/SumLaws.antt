@@ -1,18 +1,20 @@
 -- The ones' complement sum is the plain sum of the words brought into 0 .. 65535, and the plain sum goes piece by piece.
 use Prim.Native.Nat.{ℕ, zero, suc, _+_, _-_, _*_, _/_, _%_, _^_, _≤_, _<_}
-use native.Mathlib.Nat.{zero-add, sub-zero}
+use native.Mathlib.Nat.{zero-add, add-zero, sub-zero}
 use native.Mathlib.Omega.{arith}
-use mathlib.Core.List.{List, [], _∷_, _++_}
-use mathlib.Core.Bool.{Bool, true, false}
+use mathlib.Core.List.{List, [], _∷_, _++_, append-assoc}
+use mathlib.Core.Bool.{Bool, true, false, _&&_}
 use mathlib.Core.Path.{_≡_, refl, sym, ap, _∙_}
 use lib.ListN.{length, getD, take, drop, drop-of-length-le, length-append, length-take, length-drop, take-append-drop}
 use lib.Seq.{drop-cons, getD-drop, drop-drop, take-add, take-all, take-at, drop-at}
 use lib.Dec.{ltb, leb, eqb}
-use borrow.Author.Tests.{ltb-true, ltb-false, le-leb, lt-leb, ne-eqb}
+use borrow.Author.Tests.{ltb-true, ltb-false, leb-true, le-leb, lt-leb, eq-eqb, ne-eqb}
 use Rattle.octets.specs.Read.{choose}
 use Rattle.octets.specs.Write.{put, be16Bytes, be32Bytes}
-use Rattle.expand.specs.Sum.{words, plus, onesSum, pseudo, covered, udpChecksum, summed, summedIn, sumWords}
-use Rattle.expand.proofs.CopyLaws.{put-front-part}
+use Rattle.octets.proofs.Steps.{and-true}
+use Rattle.expand.specs.Sum.{words, plus, onesSum, pseudo, covered, udpChecksum, summed, seen, checksumAt, summedAt, wasElided, stands, summedBy, summedIn, sumWords}
+use Rattle.expand.specs.declared.checksum.UdpSum.{UdpSum}
+use Rattle.expand.proofs.CopyLaws.{put-front-part, length-put}
 
 -- ---- the plain sum, word by word
 pub words-none : (s : List ℕ) (i : ℕ) → length s ≤ i → sumWords (drop i s) ≡ 0
@@ -139,12 +141,10 @@ module _ (d : List ℕ) (low : 48 ≤ length d) (high : length d ≤ 65575) wher
   fold-le a b h = let x : ℕ = a + b + (length d - 40) + 17 in let k : x < 2 ^ 32 = omega arith in fold-small x k
 
   -- what the code has at the end, from the sums a and b of the two runs
-  module _ (a b : ℕ) (ha : a ≡ sumWords (take 38 (drop 8 d))) (hb : b ≡ sumWords (take (length d - 48) (drop 48 d))) (fits : a + b ≤ 4294836224) (bytes : Bytes d) where
+  module _ (a b : ℕ) (ha : a ≡ sumWords (take 38 (drop 8 d))) (hb : b ≡ sumWords (drop 48 d)) (fits : a + b ≤ 4294836224) (bytes : Bytes d) where
     ones-folded : fold (fold (a + b + (length d - 40) + 17)) ≡ onesSum (words (covered d 0))
     ones-folded =
         let x = a + b + (length d - 40) + 17 in
-        let e : take (length d - 48) (drop 48 d) ≡ drop 48 d = take-all (length d - 48) (drop 48 d) (omega (arith, length-drop 48 d)) in
-        let k : b ≡ sumWords (drop 48 d) = hb ∙ ap sumWords e in
         folded x (omega arith) ∙ ap norm (omega (arith, covered-sum 0)) ∙ sym (ones-norm (covered d 0) (covered-bytes 0 (omega arith) bytes))
 
     pub checksum-other : (fold (fold (a + b + (length d - 40) + 17)) ≡ 65535 → ⊥) → 65535 - fold (fold (a + b + (length d - 40) + 17)) ≡ udpChecksum d
@@ -158,38 +158,138 @@ module _ (d : List ℕ) (low : 48 ≤ length d) (high : length d ≤ 65575) wher
     unfolding udpChecksum
     checksum-ones h = rw (← ones-folded, h) refl
 
+-- ---- the UDP header at u of d, and the IPv6 header at i
+module _ (i u : ℕ) (d : List ℕ) (apart : i + 40 ≤ u) (low : u + 8 ≤ length d) (high : length d ≤ u + 65535) where
+  length-outside : length (take 40 (drop i d)) ≡ 40
+  length-outside = omega (arith, length-take 40 (drop i d), length-drop i d)
+
+  pub length-seen : length (seen i u d) ≡ 40 + (length d - u)
+  unfolding seen
+  length-seen = length-append (take 40 (drop i d)) (drop u d) ∙ ap (λ n. n + length (drop u d)) length-outside ∙ ap (λ n. 40 + n) (length-drop u d)
+
+  pub behind-seen : (k : ℕ) → drop (40 + k) (seen i u d) ≡ drop (u + k) d
+  unfolding seen
+  behind-seen k = sym (drop-drop k 40 (seen i u d)) ∙ ap (drop k) (drop-at (take 40 (drop i d)) (drop u d) 40 length-outside) ∙ drop-drop k u d
+
+  pub both-seen : take 32 (drop 8 (seen i u d)) ≡ take 32 (drop (i + 8) d)
+  unfolding seen
+  both-seen =
+      let x = drop i d in
+      let b = take 32 (drop 8 x) in
+      let l8 : length (take 8 x) ≡ 8 = omega (arith, length-take 8 x, length-drop i d) in
+      let l32 : length b ≡ 32 = omega (arith, length-take 32 (drop 8 x), length-drop 8 x, length-drop i d) in
+      ap (λ z. take 32 (drop 8 (z ++ drop u d))) (take-add 8 32 x)
+      ∙ ap (λ z. take 32 (drop 8 z)) (append-assoc (take 8 x) b (drop u d))
+      ∙ ap (take 32) (drop-at (take 8 x) (b ++ drop u d) 8 l8)
+      ∙ take-at b (drop u d) 32 l32
+      ∙ ap (take 32) (drop-drop 8 i d)
+
+  bytes-seen : Bytes d → Bytes (seen i u d)
+  unfolding seen
+  bytes-seen b = bytes-append (take 40 (drop i d)) (drop u d) (bytes-take 40 (drop i d) (bytes-drop i d b)) (bytes-drop u d b)
+
+  -- from the sums of the three runs that the code adds up
+  module _ (a p b : ℕ) (ha : a ≡ sumWords (take (i + 40 - (i + 8)) (drop (i + 8) d))) (hp : p ≡ sumWords (take (u + 6 - u) (drop u d))) (hb : b ≡ sumWords (take (length d - (u + 8)) (drop (u + 8) d))) (fits : a + p + b ≤ 4294836224) (bytes : Bytes d) where
+    heads-are : a + p ≡ sumWords (take 38 (drop 8 (seen i u d)))
+    heads-are =
+        let e = seen i u d in
+        let k : i + 40 - (i + 8) ≡ 32 = omega arith in
+        let n : u + 6 - u ≡ 6 = omega arith in
+        let ea : a ≡ sumWords (take 32 (drop 8 e)) = ha ∙ ap (λ z. sumWords (take z (drop (i + 8) d))) k ∙ ap sumWords (sym both-seen) in
+        let ep : p ≡ sumWords (take 6 (drop 40 e)) = hp ∙ ap (λ z. sumWords (take z (drop u d))) n ∙ ap (λ z. sumWords (take 6 (drop z d))) (sym (add-zero u)) ∙ ap (λ z. sumWords (take 6 z)) (sym (behind-seen 0)) in
+        let le : length (take 32 (drop 8 e)) ≡ 32 = omega (arith, length-take 32 (drop 8 e), length-drop 8 e, length-seen) in
+        let f : take 38 (drop 8 e) ≡ take 32 (drop 8 e) ++ take 6 (drop 40 e) = take-add 32 6 (drop 8 e) ∙ ap (λ z. take 32 (drop 8 e) ++ take 6 z) (drop-drop 32 8 e) in
+        rw (ea, ep) (sym (ap sumWords f ∙ sum-append (take 32 (drop 8 e)) (take 6 (drop 40 e)) (omega arith)))
+
+    data-are : b ≡ sumWords (drop 48 (seen i u d))
+    data-are =
+        hb ∙ ap sumWords (take-all (length d - (u + 8)) (drop (u + 8) d) (omega (arith, length-drop (u + 8) d)) ∙ sym (behind-seen 8))
+
+    left-is : length (seen i u d) - 40 ≡ length d - u
+    left-is = omega (arith, length-seen)
+
+    pub at-other : (fold (fold (a + p + b + (length d - u) + 17)) ≡ 65535 → ⊥) → 65535 - fold (fold (a + p + b + (length d - u) + 17)) ≡ checksumAt i u d
+    unfolding checksumAt
+    at-other = rw (← left-is) (checksum-other (seen i u d) (omega (arith, length-seen)) (omega (arith, length-seen)) (a + p) b heads-are data-are fits (bytes-seen bytes))
+
+    pub at-ones : fold (fold (a + p + b + (length d - u) + 17)) ≡ 65535 → 65535 ≡ checksumAt i u d
+    unfolding checksumAt
+    at-ones = rw (← left-is) (checksum-ones (seen i u d) (omega (arith, length-seen)) (omega (arith, length-seen)) (a + p) b heads-are data-are fits (bytes-seen bytes))
+
+-- where the two headers stand
+pub stands-so : {r : Bool} (m : UdpSum) (n : ℕ) → m .ip + 40 ≤ m .udp → m .udp + 8 ≤ n → r ≡ leb n (m .udp + 65535) → r ≡ stands m n
+stands-so m n a b e = rw (le-leb (m .ip + 40) (m .udp) a, le-leb (m .udp + 8) n b) e
+
+pub stands-short : (m : UdpSum) (n : ℕ) → m .ip + 40 ≤ m .udp → n < m .udp + 8 → false ≡ stands m n
+stands-short m n a b = rw (le-leb (m .ip + 40) (m .udp) a, lt-leb (m .udp + 8) n b) refl
+
+pub stands-not : (m : UdpSum) (n : ℕ) → m .udp < m .ip + 40 → false ≡ stands m n
+stands-not m n a = rw (lt-leb (m .ip + 40) (m .udp) a) refl
+
+pub ruleset stood = (stands-so, stands-short, stands-not)
+
+pub stands-facts : (m : UdpSum) (n : ℕ) → stands m n ≡ true → (m .ip + 40 ≤ m .udp) × (m .udp + 8 ≤ n) × (n ≤ m .udp + 65535)
+stands-facts m n h =
+    let a = and-true (leb (m .ip + 40) (m .udp)) _ h in
+    let b = and-true (leb (m .udp + 8) n) _ (a .1) in
+    (leb-true (m .ip + 40) (m .udp) (a .0), leb-true (m .udp + 8) n (b .0), leb-true n (m .udp + 65535) (b .1))
+
+-- behind an IPv6 header at the front it is the checksum of the whole datagram
+pub summed-first : (d : List ℕ) → summedAt 0 40 d ≡ summed d
+unfolding summedAt checksumAt seen summed
+summed-first d = ap (λ z. put 46 (be16Bytes (udpChecksum z)) d) (take-append-drop 40 d)
+
 -- ---- in lent bytes
-pub summed-put : (d : List ℕ) → summed d ≡ put 46 (be16Bytes (udpChecksum d)) d
-unfolding summed
-summed-put d = refl
+pub summed-put : (i u : ℕ) (d : List ℕ) → summedAt i u d ≡ put (u + 6) (be16Bytes (checksumAt i u d)) d
+unfolding summedAt
+summed-put i u d = refl
 
-pub too-short : (n : ℕ) (l : List ℕ) → n < 48 → l ≡ summedIn n l
+not-summed-go : (m : UdpSum) (n : ℕ) (l : List ℕ) (t : Bool) → leb n (length l) ≡ t → (wasElided m && stands m n) ≡ false → l ≡ choose t (summedBy m (take n l) ++ drop n l) l
+unfolding summedBy
+not-summed-go m n l true e h =
+    let k : length (take n l) ≡ n = omega (arith, length-take n l, leb-true n (length l) e) in
+    rw (k, h) (sym (take-append-drop n l))
+not-summed-go m n l false e h = refl
+
+not-summed : (m : UdpSum) (n : ℕ) (l : List ℕ) → (wasElided m && stands m n) ≡ false → l ≡ summedIn m n l
 unfolding summedIn
-too-short n l h = rw (lt-leb 48 n h) refl
+not-summed m n l h = not-summed-go m n l (leb n (length l)) refl h
 
-pub too-long : (n : ℕ) (l : List ℕ) → 48 ≤ n → 65575 < n → l ≡ summedIn n l
+pub not-elided : (m : UdpSum) (n : ℕ) (l : List ℕ) → (m .kind ≡ 1 → ⊥) → l ≡ summedIn m n l
+not-elided m n l h = not-summed m n l (rw (ne-eqb (m .kind) 1 h) refl)
+
+pub past-end : (m : UdpSum) (n : ℕ) (l : List ℕ) → length l < n → l ≡ summedIn m n l
 unfolding summedIn
-too-long n l a h = rw (le-leb 48 n a, lt-leb n 65575 h) refl
+past-end m n l h = rw (lt-leb n (length l) h) refl
 
-pub past-end : (n : ℕ) (l : List ℕ) → 48 ≤ n → n ≤ 65575 → length l < n → l ≡ summedIn n l
-unfolding summedIn
-past-end n l a b h = rw (le-leb 48 n a, le-leb n 65575 b, lt-leb n (length l) h) refl
+pub not-standing : {t : Bool} (m : UdpSum) (n : ℕ) (l : List ℕ) → t ≡ stands m n → t ≡ false → m .kind ≡ 1 → l ≡ summedIn m n l
+not-standing m n l p q h = not-summed m n l (rw (eq-eqb (m .kind) 1 h) (sym p ∙ q))
 
-pub summed-in : (n r : ℕ) (l m : List ℕ) → 48 ≤ n → n ≤ 65575 → n ≤ length l → r ≡ udpChecksum (take (n - 0) l) → m ≡ put 46 (be16Bytes r) l → m ≡ summedIn n l
-unfolding summedIn summed be16Bytes
-summed-in n r l m a b h p q =
-    let k : 48 ≤ length (take n l) = omega (arith, length-take n l) in
-    rw (le-leb 48 n a, le-leb n 65575 b, le-leb n (length l) h)
+pub summed-in : (m : UdpSum) (n r : ℕ) (l k : List ℕ) → m .kind ≡ 1 → stands m n ≡ true → n ≤ length l → r ≡ checksumAt (m .ip) (m .udp) (take (n - 0) l) → k ≡ put (m .udp + 6) (be16Bytes r) l → k ≡ summedIn m n l
+unfolding summedIn summedBy summedAt be16Bytes
+summed-in m n r l k one st h p q =
+    let e : length (take n l) ≡ n = omega (arith, length-take n l) in
+    let f : m .udp + 6 + 2 ≤ length (take n l) = omega (arith, stands-facts m n st) in
+    rw (le-leb n (length l) h, e, eq-eqb (m .kind) 1 one, st)
     (q
-    ∙ ap (put 46 (be16Bytes r)) (sym (take-append-drop n l))
-    ∙ put-front-part 46 (be16Bytes r) (take n l) (drop n l) k
-    ∙ ap (λ x. put 46 (be16Bytes x) (take n l) ++ drop n l) (p ∙ ap (λ k. udpChecksum (take k l)) (sub-zero n)))
+    ∙ ap (put (m .udp + 6) (be16Bytes r)) (sym (take-append-drop n l))
+    ∙ put-front-part (m .udp + 6) (be16Bytes r) (take n l) (drop n l) f
+    ∙ ap (λ x. put (m .udp + 6) (be16Bytes x) (take n l) ++ drop n l) (p ∙ ap (λ k. checksumAt (m .ip) (m .udp) (take k l)) (sub-zero n)))
 
 -- at the front of two parts
-pub summed-front : (n : ℕ) (d y : List ℕ) → length d ≡ n → 48 ≤ n → n ≤ 65575 → summedIn n (d ++ y) ≡ summed d ++ y
+pub summed-front : (m : UdpSum) (n : ℕ) (d y : List ℕ) → length d ≡ n → summedIn m n (d ++ y) ≡ summedBy m d ++ y
 unfolding summedIn
-summed-front n d y e a b =
+summed-front m n d y e =
     let h : n ≤ length (d ++ y) = omega (arith, length-append d y) in
-    rw (le-leb 48 n a, le-leb n 65575 b, le-leb n (length (d ++ y)) h, take-at d y n e, drop-at d y n e) refl
+    rw (le-leb n (length (d ++ y)) h, take-at d y n e, drop-at d y n e) refl
 
-pub ruleset lent = (too-short, too-long, past-end, summed-in)
+length-go : (m : UdpSum) (d : List ℕ) (t : Bool) → length (choose t (summedAt (m .ip) (m .udp) d) d) ≡ length d
+unfolding summedAt
+length-go m d true = length-put (m .udp + 6) (be16Bytes (checksumAt (m .ip) (m .udp) d)) d
+length-go m d false = refl
+
+pub length-summed : (m : UdpSum) (d : List ℕ) → length (summedBy m d) ≡ length d
+unfolding summedBy
+length-summed m d = length-go m d (wasElided m && stands m (length d))
+
+pub ruleset lent = (not-elided, past-end, not-standing)

@@ -8,9 +8,9 @@ use Rattle.expand.specs.Expand.{Expansion, Measure, ofExpanded, answered
 use Rattle.expand.specs.declared.datagram.Expanded.{Expanded}
 
 pub expanded-one : Injective ofExpanded
-expanded-one = one ofExpanded (λ (m : Measure). Expanded.Datagram (m .len) (m .elided)) Expanded.Refused inv
+expanded-one = one ofExpanded (λ (m : Measure). Expanded.Datagram (m .len) (m .sum)) Expanded.Refused inv
   where
-    inv : (y : Expanded) → back (λ (m : Measure). Expanded.Datagram (m .len) (m .elided)) Expanded.Refused (ofExpanded y) ≡ y
+    inv : (y : Expanded) → back (λ (m : Measure). Expanded.Datagram (m .len) (m .sum)) Expanded.Refused (ofExpanded y) ≡ y
     inv (Expanded.Datagram n e) = refl
     inv (Expanded.Refused e) = ap Expanded.Refused (refusal-back e)
 

@@ -1,73 +1,72 @@
 -- The datagram that a frame stands for (the scope document, "Expansion and the slot table").
 use Prim.Native.Nat.{ℕ, _+_, _-_}
-use mathlib.Core.List.{List, _++_}
-use mathlib.Core.Bool.{Bool, true, false}
+use mathlib.Core.List.{List}
+use mathlib.Core.Bool.{false}
 use lib.Dec.{ltb, leb}
-use lib.ListN.{length, drop}
+use lib.ListN.{length}
 use Rattle.octets.specs.Read.{Answer, is, refused, andThen, choose}
 use Rattle.octets.specs.Refusal.{numberOf}
 use Rattle.octets.specs.Write.{over}
 use Rattle.octets.specs.declared.field.WordField.{WordField}
 use Rattle.ieee802154.specs.declared.addr.AddressField.{AddressField}
-use Rattle.expand.specs.Sum.{summed}
-use Rattle.expand.specs.Headers.{headers}
-use Rattle.expand.specs.Full.{ipv6Bytes, udpBytes, udpSize, isElided}
-use Rattle.expand.specs.declared.headers.UdpField.{UdpField}
-use Rattle.expand.specs.declared.headers.Headers.{Headers}
+use Rattle.expand.specs.Sum.{summedBy, summedIn}
+use Rattle.iphc.specs.declared.header.Repr.{Repr}
+use Rattle.expand.specs.Chain.{Chain, ipv6, within, behindNext, chain, chained, sizeOf, fullBytes, sumIn}
+use Rattle.expand.specs.declared.checksum.UdpSum.{UdpSum}
 use Rattle.expand.specs.declared.datagram.Expanded.{Expanded}
 
--- the datagram's bytes, or those of its first part; and whether the frame left its UDP checksum out
+-- the datagram's bytes, or those of its first part; and what is to be remembered of its UDP checksum
 pub record Expansion : Type 0 where
   pub bytes : List ℕ
-  pub elided : Bool
+  pub sum : UdpSum
 
 -- ---- the bytes
--- the headers in full, and the rest of the frame s from the place behind its headers on
-unfoldable pub plain : Headers → ℕ → List ℕ → List ℕ
-plain h payload s = ipv6Bytes (h .ip) payload ++ (udpBytes (h .udp) payload ++ drop (h .rest) s)
-
-abbrev pub lengthOf : Headers → List ℕ → ℕ
-lengthOf h s = 40 + (udpSize (h .udp) + length (drop (h .rest) s))
-
 -- the length of the whole datagram: that of n bytes, or in a first part its size
 abbrev pub totalOf : WordField → ℕ → ℕ
 totalOf WordField.None n = n
 totalOf (WordField.Some size) n = size
 
 -- an elided checksum is computed, but not in a first part, where it stays 0
-abbrev pub computes : WordField → UdpField → Bool
-computes WordField.None u = isElided u
-computes (WordField.Some size) u = false
+abbrev pub finished : WordField → UdpSum → List ℕ → List ℕ
+finished WordField.None m d = summedBy m d
+finished (WordField.Some size) m d = d
 
-unfoldable pub bytesOf : WordField → Headers → List ℕ → List ℕ
-bytesOf size h s =
-    let d = plain h (totalOf size (lengthOf h s) - 40) s in
-    choose (computes size (h .udp)) (summed d) d
+-- in lent bytes: the first n so
+abbrev pub finishedIn : WordField → UdpSum → ℕ → List ℕ → List ℕ
+finishedIn WordField.None m n room = summedIn m n room
+finishedIn (WordField.Some size) m n room = room
+
+unfoldable pub bytesOf : WordField → Chain → List ℕ
+bytesOf size c = finished size (sumIn false 0 0 c) (fullBytes (totalOf size (sizeOf c)) 0 c)
 
 -- ---- the refusals: 4 for a frame over 127 bytes, those of the headers, and 10 for a first part whose bytes end beyond its size
-unfoldable pub sized : WordField → Headers → List ℕ → Answer Expansion
-sized size h s =
-    choose (leb (lengthOf h s) (totalOf size (lengthOf h s)))
-    (is (record { bytes = bytesOf size h s; elided = isElided (h .udp) }))
+unfoldable pub sized : WordField → Chain → Answer Expansion
+sized size c =
+    choose (leb (sizeOf c) (totalOf size (sizeOf c)))
+    (is (record { bytes = bytesOf size c; sum = sumIn false 0 0 c }))
     (refused 10)
 
 -- ctx: the contexts; ls and ld: the link-layer addresses of the frame s; at: where its compressed header begins
 unfoldable pub expansion : List ℕ → AddressField → AddressField → WordField → List ℕ → ℕ → Answer Expansion
 expansion ctx ls ld size s at =
     choose (ltb 127 (length s)) (refused 4)
-    (andThen (headers ctx ls ld s at) (λ h. sized size h s))
+    (andThen (chained ctx ls ld s at) (λ p. sized size (p .value)))
+
+-- from where the outer IPv6 header was read on
+unfoldable pub headed : List ℕ → WordField → Repr → List ℕ → ℕ → Answer Expansion
+headed ctx size h s at = andThen (behindNext (h .«next_header») (chain 7 ctx (within h)) s at) (λ p. sized size (ipv6 h (p .value)))
 
 -- ---- the answers
 pub record Measure : Type 0 where
   pub len : ℕ
-  pub elided : Bool
+  pub sum : UdpSum
 
 abbrev pub ofExpanded : Expanded → Answer Measure
-ofExpanded (Expanded.Datagram n e) = is (record { len = n; elided = e })
+ofExpanded (Expanded.Datagram n m) = is (record { len = n; sum = m })
 ofExpanded (Expanded.Refused e) = refused (numberOf e)
 
 abbrev pub measureOf : Expansion → Measure
-measureOf e = record { len = length (e .bytes); elided = e .elided }
+measureOf e = record { len = length (e .bytes); sum = e .sum }
 
 abbrev pub measured : Answer Expansion → Answer Measure
 measured m = andThen m (λ e. is (measureOf e))

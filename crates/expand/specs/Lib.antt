@@ -1,4 +1,5 @@
 pub mod Sum
-pub mod Headers
 pub mod Full
+pub mod Chain
 pub mod Expand
+pub mod Plain

@@ -2,39 +2,27 @@
 ghost use mathlib.Core.Path.{_≡_};
 ghost use Prim.Native.Nat.{_≤_, _+_};
 ghost use lib.ListN.{length};
-ghost use Rattle.octets.specs.Read.{choose};
-ghost use Rattle.octets.specs.Write.{put};
 ghost use Rattle.expand.specs.Sum.{summedIn};
-ghost use Rattle.expand.specs.Expand.{ofExpanded, lengthOf, totalOf, computes, plain, sized, expansion, measured, answered, written};
+ghost use Rattle.expand.specs.Chain.{chain, behindNext, within, outer, Walks};
+ghost use Rattle.expand.specs.Expand.{ofExpanded, totalOf, finishedIn, headed, expansion, measured, answered, written};
+use super::chain::Walked;
+use super::chain::Way;
+use super::chain::chain;
+use super::chain::next_number;
+use super::checksum::UdpSum;
 use super::checksum::put_checksum;
-use super::copy::left;
-use super::copy::put_part;
-use super::headers::Headers;
-use super::headers::HeadersRead;
-use super::headers::UdpField;
-use super::headers::read_headers;
-use super::ip::is_elided;
 use super::ip::put_ipv6;
-use super::ip::put_udp;
-use super::ip::udp_size;
 use ieee802154::addr::AddressField;
+use iphc::Parsed;
+use iphc::Repr;
 use octets::cursor::Cursor;
 use octets::field::WordField;
 use octets::refusal::Refusal;
 
-// How many bytes the datagram, or its first part, has, and whether its UDP checksum was elided; or why there is none.
+// How many bytes the datagram, or its first part, has, and what is to be remembered of its UDP checksum; or why there is none.
 pub enum Expanded {
-    Datagram { len: usize, elided: bool },
+    Datagram { len: usize, sum: UdpSum },
     Refused(Refusal),
-}
-
-// How many bytes of the datagram the frame stands for.
-fn length_of(frame: &[u8], h: Headers) -> u16
-    requires { ⌜ length (now frame) ≤ 127 ⌝ }
-    ensures { λ r. ⌜ (r ≡ lengthOf h (now (frame .entry))) × (r ≤ 175) ⌝ }
-{
-    let udp = h.udp;
-    (40 + udp_size(udp) + left(frame, h.rest)) as u16
 }
 
 // The length of the whole datagram.
@@ -47,71 +35,85 @@ fn total_of(size: WordField, n: u16) -> u16
     }
 }
 
-// Whether the checksum is to be computed: it was elided, and the datagram is not in parts.
-fn computes(size: WordField, udp: UdpField) -> bool
-    ensures { λ r. ⌜ r ≡ computes size udp ⌝ }
+// An elided checksum is computed where the datagram is not in parts.
+fn put_elided(buf: &mut [u8], size: WordField, n: usize, m: UdpSum)
+    ensures { λ _. ⌜ now (buf .exit) ≡ finishedIn size m n (now (buf .entry)) ⌝ }
 {
     match size {
-        WordField::None => is_elided(udp),
-        WordField::Some(_) => false,
+        WordField::None => put_checksum(buf, n, m),
+        WordField::Some(_) => {}
     }
 }
 
-// The headers in full and the rest of the frame, with 0 for an elided checksum.
-fn put_plain(buf: &mut [u8], frame: &[u8], h: Headers, payload: u16)
-    ensures { λ _. ⌜ now (buf .exit) ≡ put 0 (plain h payload (now (frame .entry))) (now (buf .entry)) ⌝ }
-{
-    let ip = h.ip;
-    let udp = h.udp;
-    let rest = h.rest;
-    put_ipv6(buf, ip, payload);
-    put_udp(buf, udp, payload);
-    put_part(buf, 40 + udp_size(udp), frame, rest, frame.len());
-}
-
-// The checksum, where it is to be computed.
-fn put_elided(buf: &mut [u8], size: WordField, udp: UdpField, n: usize)
-    ensures { λ _. ⌜ now (buf .exit) ≡ choose (computes size udp) (summedIn n (now (buf .entry))) (now (buf .entry)) ⌝ }
-{
-    if computes(size, udp) {
-        put_checksum(buf, n);
-    }
-}
-
-// Measures the datagram whose headers were read.
-fn measure_sized(frame: &[u8], h: Headers, size: WordField) -> Expanded
+// What follows the outer IPv6 header, in a datagram of a length: at most seven headers more.
+fn walk(frame: &[u8], ip: Repr, at: usize, contexts: &[u8], total: u16, out: &mut [u8]) -> Walked
     requires { ⌜ length (now frame) ≤ 127 ⌝ }
-    ensures { λ r. ⌜ ofExpanded r ≡ measured (sized size h (now (frame .entry))) ⌝ }
+    ensures { λ r. ⌜ Walks r (outer ip total) (behindNext (ip .«next_header») (chain 7 (now (contexts .entry)) (within ip)) (now (frame .entry)) at) (now (out .entry)) (now (out .exit)) ⌝ }
 {
-    let udp = h.udp;
-    let n = length_of(frame, h);
-    if total_of(size, n) < n {
-        return Expanded::Refused(Refusal::BadPart);
-    }
-    let len = n as usize;
-    let elided = is_elided(udp);
-    Expanded::Datagram { len, elided }
+    let next = ip.next_header;
+    let src = ip.src_addr;
+    let dst = ip.dst_addr;
+    let w = Way {
+        src,
+        dst,
+        routed: false,
+        left: 7,
+        ip: 0,
+        at: 40,
+        total,
+    };
+    chain(frame, next, Cursor { at }, contexts, w, out)
 }
 
-// Writes the datagram whose headers were read.
-fn expand_sized(frame: &[u8], h: Headers, size: WordField, out: &mut [u8]) -> Expanded
+// Measures the datagram whose IPv6 header was read. Nothing is written: in one byte there is no room for what follows that header.
+fn measure_headed(frame: &[u8], ip: Repr, at: usize, contexts: &[u8], size: WordField) -> Expanded
     requires { ⌜ length (now frame) ≤ 127 ⌝ }
-    ensures { λ r. ⌜ (ofExpanded r ≡ answered (sized size h (now (frame .entry))) (now (out .entry))) × (now (out .exit) ≡ written (sized size h (now (frame .entry))) (now (out .entry))) ⌝ }
+    ensures { λ r. ⌜ ofExpanded r ≡ measured (headed (now (contexts .entry)) size ip (now (frame .entry)) at) ⌝ }
 {
-    let udp = h.udp;
-    let n = length_of(frame, h);
-    let total = total_of(size, n);
-    if total < n {
-        return Expanded::Refused(Refusal::BadPart);
+    let mut nowhere = [0u8; 1];
+    match walk(frame, ip, at, contexts, 0, &mut nowhere) {
+        Walked::End { len, sum } => {
+            if total_of(size, len) < len {
+                return Expanded::Refused(Refusal::BadPart);
+            }
+            let len = len as usize;
+            Expanded::Datagram { len, sum }
+        }
+        Walked::Refused(e) => Expanded::Refused(e),
     }
-    let len = n as usize;
-    if out.len() < len {
-        return Expanded::Refused(Refusal::NoRoom);
+}
+
+// Writes the datagram whose IPv6 header was read.
+fn expand_headed(
+    frame: &[u8],
+    ip: Repr,
+    at: usize,
+    contexts: &[u8],
+    size: WordField,
+    out: &mut [u8],
+) -> Expanded
+    requires { ⌜ length (now frame) ≤ 127 ⌝ }
+    ensures { λ r. ⌜ (ofExpanded r ≡ answered (headed (now (contexts .entry)) size ip (now (frame .entry)) at) (now (out .entry))) × (now (out .exit) ≡ written (headed (now (contexts .entry)) size ip (now (frame .entry)) at) (now (out .entry))) ⌝ }
+{
+    let mut nowhere = [0u8; 1];
+    match walk(frame, ip, at, contexts, 0, &mut nowhere) {
+        Walked::End { len, sum } => {
+            let total = total_of(size, len);
+            if total < len {
+                return Expanded::Refused(Refusal::BadPart);
+            }
+            let len = len as usize;
+            if out.len() < len {
+                return Expanded::Refused(Refusal::NoRoom);
+            }
+            let next = ip.next_header;
+            put_ipv6(out, 0, ip, next_number(frame, next, at), total - 40);
+            walk(frame, ip, at, contexts, total, out);
+            put_elided(out, size, len, sum);
+            Expanded::Datagram { len, sum }
+        }
+        Walked::Refused(e) => Expanded::Refused(e),
     }
-    put_plain(out, frame, h, total - 40);
-    put_elided(out, size, udp, len);
-    let elided = is_elided(udp);
-    Expanded::Datagram { len, elided }
 }
 
 // What `expand` would answer in room enough. The compressed header stands at the place c of the frame; `size` is the size
@@ -130,9 +132,9 @@ pub fn measure(
     if 127 < frame.len() {
         return Expanded::Refused(Refusal::BadLength);
     }
-    match read_headers(frame, c, ll_src, ll_dst, contexts) {
-        HeadersRead::Are(h) => measure_sized(frame, h, size),
-        HeadersRead::Refused(e) => Expanded::Refused(e),
+    match Repr::read(frame, c, ll_src, ll_dst, contexts) {
+        Parsed::Header(ip, at) => measure_headed(frame, ip, at, contexts, size),
+        Parsed::Refused(e) => Expanded::Refused(e),
     }
 }
 
@@ -151,8 +153,8 @@ pub fn expand(
     if 127 < frame.len() {
         return Expanded::Refused(Refusal::BadLength);
     }
-    match read_headers(frame, c, ll_src, ll_dst, contexts) {
-        HeadersRead::Are(h) => expand_sized(frame, h, size, out),
-        HeadersRead::Refused(e) => Expanded::Refused(e),
+    match Repr::read(frame, c, ll_src, ll_dst, contexts) {
+        Parsed::Header(ip, at) => expand_headed(frame, ip, at, contexts, size, out),
+        Parsed::Refused(e) => Expanded::Refused(e),
     }
 }

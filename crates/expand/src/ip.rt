@@ -1,9 +1,11 @@
 // The headers in full, put into lent bytes.
 ghost use mathlib.Core.Path.{_≡_};
-ghost use Prim.Native.Nat.{_<_, _≤_};
+ghost use Prim.Native.Nat.{_<_, _≤_, _+_, _-_};
+ghost use lib.ListN.{length, take, drop};
 ghost use Rattle.octets.specs.Write.{put};
-ghost use Rattle.expand.specs.Full.{byteOr, wordOr, labelOr, classOf, nextOf, firstWord, frontBytes, bothBytes, ipv6Bytes, udpSize, udpBytes, isElided};
-use super::headers::UdpField;
+ghost use Rattle.expand.specs.Full.{byteOr, wordOr, labelOr, classOf, firstWord, frontWith, bothBytes, ipv6With, udpFull};
+ghost use Rattle.expand.specs.Chain.{pad, fullSize, extFull};
+use super::copy::put_part;
 use iphc::LabelField;
 use iphc::Repr;
 use octets::field::ByteField;
@@ -13,8 +15,7 @@ use octets::write::put_be16;
 use octets::write::put_be32;
 use octets::write::put_be64;
 use octets::write::put_byte;
-use sixlowpan::IpProtocol;
-use sixlowpan::NextHeader;
+use sixlowpan::nhc::UdpNhcRepr;
 
 // An absent field is 0.
 fn byte_or(f: ByteField) -> u32
@@ -44,16 +45,6 @@ fn label_or(f: LabelField) -> u32
     }
 }
 
-// The next header's number: UDP where it is compressed.
-fn next_of(next: NextHeader) -> u8
-    ensures { λ r. ⌜ r ≡ nextOf next ⌝ }
-{
-    match next {
-        NextHeader::Compressed => IpProtocol::UDP.0,
-        NextHeader::Uncompressed(p) => p.0,
-    }
-}
-
 // Version, traffic class and flow label.
 fn first_word(ip: Repr) -> u32
     ensures { λ r. ⌜ r ≡ firstWord ip ⌝ }
@@ -66,73 +57,86 @@ fn first_word(ip: Repr) -> u32
 }
 
 // What stands before the addresses.
-fn put_front(buf: &mut [u8], ip: Repr, payload: u16)
-    ensures { λ _. ⌜ now (buf .exit) ≡ put 0 (frontBytes ip payload) (now (buf .entry)) ⌝ }
+fn put_front(buf: &mut [u8], at: usize, ip: Repr, next: u8, payload: u16)
+    requires { ⌜ at ≤ 65535 ⌝ }
+    ensures { λ _. ⌜ now (buf .exit) ≡ put at (frontWith ip next payload) (now (buf .entry)) ⌝ }
 {
-    let next = ip.next_header;
-    put_be32(buf, 0, first_word(ip));
-    put_be16(buf, 4, payload);
-    put_byte(buf, 6, next_of(next));
-    put_byte(buf, 7, ip.hop_limit);
+    put_be32(buf, at, first_word(ip));
+    put_be16(buf, at + 4, payload);
+    put_byte(buf, at + 6, next);
+    put_byte(buf, at + 7, ip.hop_limit);
 }
 
-fn put_both(buf: &mut [u8], src: Ipv6Addr, dst: Ipv6Addr)
-    ensures { λ _. ⌜ now (buf .exit) ≡ put 8 (bothBytes src dst) (now (buf .entry)) ⌝ }
+fn put_both(buf: &mut [u8], at: usize, src: Ipv6Addr, dst: Ipv6Addr)
+    requires { ⌜ at ≤ 65535 ⌝ }
+    ensures { λ _. ⌜ now (buf .exit) ≡ put at (bothBytes src dst) (now (buf .entry)) ⌝ }
 {
-    put_be64(buf, 8, src.prefix);
-    put_be64(buf, 16, src.iid);
-    put_be64(buf, 24, dst.prefix);
-    put_be64(buf, 32, dst.iid);
+    put_be64(buf, at, src.prefix);
+    put_be64(buf, at + 8, src.iid);
+    put_be64(buf, at + 16, dst.prefix);
+    put_be64(buf, at + 24, dst.iid);
 }
 
-// The IPv6 header at the front.
-pub fn put_ipv6(buf: &mut [u8], ip: Repr, payload: u16)
-    ensures { λ _. ⌜ now (buf .exit) ≡ put 0 (ipv6Bytes ip payload) (now (buf .entry)) ⌝ }
+// An IPv6 header at a place.
+pub(crate) fn put_ipv6(buf: &mut [u8], at: usize, ip: Repr, next: u8, payload: u16)
+    requires { ⌜ at ≤ 65000 ⌝ }
+    ensures { λ _. ⌜ now (buf .exit) ≡ put at (ipv6With ip next payload) (now (buf .entry)) ⌝ }
 {
     let src = ip.src_addr;
     let dst = ip.dst_addr;
-    put_front(buf, ip, payload);
-    put_both(buf, src, dst);
+    put_front(buf, at, ip, next, payload);
+    put_both(buf, at + 8, src, dst);
 }
 
-// How many bytes a compressed UDP header has in full.
-pub fn udp_size(udp: UdpField) -> usize
-    ensures { λ r. ⌜ (r ≡ udpSize udp) × (r ≤ 8) ⌝ }
+// A UDP header at a place, with 0 for an elided checksum.
+pub(crate) fn put_udp(buf: &mut [u8], at: usize, h: UdpNhcRepr, len: u16)
+    requires { ⌜ at ≤ 65535 ⌝ }
+    ensures { λ _. ⌜ now (buf .exit) ≡ put at (udpFull h len) (now (buf .entry)) ⌝ }
 {
-    match udp {
-        UdpField::None => 0,
-        UdpField::Some(_) => 8,
-    }
+    let sum = h.checksum;
+    put_be16(buf, at, h.src_port);
+    put_be16(buf, at + 2, h.dst_port);
+    put_be16(buf, at + 4, len);
+    put_be16(buf, at + 6, word_or(sum));
 }
 
-// Whether the checksum was elided.
-pub fn is_elided(udp: UdpField) -> bool
-    ensures { λ r. ⌜ r ≡ isElided udp ⌝ }
+// How many bytes an extension header takes that has so many behind its first two: a multiple of eight.
+pub(crate) fn full_size(n: usize) -> usize
+    requires { ⌜ n ≤ 255 ⌝ }
+    ensures { λ r. ⌜ (r ≡ fullSize n) × (n + 2 ≤ r) × (r ≤ n + 9) ⌝ }
 {
-    match udp {
-        UdpField::None => false,
-        UdpField::Some(h) => {
-            let sum = h.checksum;
-            match sum {
-                WordField::None => true,
-                WordField::Some(_) => false,
-            }
-        }
-    }
+    (n + 9) / 8 * 8
 }
 
-// The UDP header behind the IPv6 header, with 0 for an elided checksum.
-pub fn put_udp(buf: &mut [u8], udp: UdpField, payload: u16)
-    ensures { λ _. ⌜ now (buf .exit) ≡ put 40 (udpBytes udp payload) (now (buf .entry)) ⌝ }
+// Padding of so many bytes: Pad1 for one, PadN for more (RFC 8200, 4.2).
+fn put_pad(buf: &mut [u8], at: usize, n: usize)
+    requires { ⌜ (at ≤ 65000) × (n ≤ 7) ⌝ }
+    ensures { λ _. ⌜ now (buf .exit) ≡ put at (pad n) (now (buf .entry)) ⌝ }
 {
-    match udp {
-        UdpField::None => {}
-        UdpField::Some(h) => {
-            let sum = h.checksum;
-            put_be16(buf, 40, h.src_port);
-            put_be16(buf, 42, h.dst_port);
-            put_be16(buf, 44, payload);
-            put_be16(buf, 46, word_or(sum));
-        }
+    if n < 2 {
+        let one = [0u8; 1];
+        put_part(buf, at, &one, 0, n);
+        return;
     }
+    let option = [1u8, (n - 2) as u8, 0, 0, 0, 0, 0];
+    put_part(buf, at, &option, 0, n);
+}
+
+// An extension header at a place: the bytes behind its first two are `len` of the frame, from the place `from` on.
+pub(crate) fn put_extension(
+    buf: &mut [u8],
+    at: usize,
+    next: u8,
+    frame: &[u8],
+    from: usize,
+    len: usize,
+)
+    requires { ⌜ (at ≤ 60000) × (len ≤ 255) × (len ≤ length (now frame) - from) ⌝ }
+    ensures { λ _. ⌜ now (buf .exit) ≡ put at (extFull next (take len (drop from (now (frame .entry))))) (now (buf .entry)) ⌝ }
+{
+    let size = full_size(len);
+    put_byte(buf, at, next);
+    put_byte(buf, at + 1, (size / 8 - 1) as u8);
+    put_part(buf, at + 2, frame, from, len);
+    put_pad(buf, at + 2 + len, size - (2 + len));
 }

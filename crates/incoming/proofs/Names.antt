@@ -16,7 +16,9 @@ use Rattle.sixlowpan.specs.declared.dispatch.SixlowpanPacket.{SixlowpanPacket}
 use Rattle.sixlowpan.specs.declared.dispatch.SixlowpanPacket.the-variants.{FragmentHeader, IphcHeader}
 use Rattle.sixlowpan.specs.declared.frag.Repr.{Repr}
 use Rattle.sixlowpan.specs.declared.frag.Repr.the-variants.{FirstFragment, Fragment}
+use Rattle.expand.specs.Sum.{noSum}
 use Rattle.expand.specs.Expand.{Expansion, expansion}
+use Rattle.expand.specs.declared.checksum.UdpSum.{UdpSum}
 use Rattle.incoming.specs.Incoming.{Brought, datagram, part, whole, piece, fragment, byKind, payload}
 use Rattle.incoming.specs.declared.arrival.Arrival.{Arrival}
 
@@ -29,42 +31,42 @@ pub record Headed (s : List ℕ) (at size tag : ℕ) : Type 0 where
 
 abbrev sizeIn : Answer Brought → ℕ
 sizeIn (is (part size tag u bs e)) = size
-sizeIn (is (datagram d)) = 0
+sizeIn (is (datagram d m)) = 0
 sizeIn (refused n) = 0
 
 abbrev tagIn : Answer Brought → ℕ
 tagIn (is (part size tag u bs e)) = tag
-tagIn (is (datagram d)) = 0
+tagIn (is (datagram d m)) = 0
 tagIn (refused n) = 0
 
 -- a datagram is no part
 abbrev kindOf : Answer Brought → ℕ
-kindOf (is (datagram d)) = 0
+kindOf (is (datagram d m)) = 0
 kindOf (is (part size tag u bs e)) = 1
 kindOf (refused n) = 2
 
-no-datagram : {X : Type 0} (d : List ℕ) (size tag u : ℕ) (bs : List ℕ) (e : Bool) → _≡_ {A = Answer Brought} (is (datagram d)) (is (part size tag u bs e)) → X
-no-datagram d size tag u bs e q = let z : _≡_ {A = ℕ} 0 1 = ap kindOf q in absurd (omega arith)
+no-datagram : {X : Type 0} (d : List ℕ) (m : UdpSum) (size tag u : ℕ) (bs : List ℕ) (e : UdpSum) → _≡_ {A = Answer Brought} (is (datagram d m)) (is (part size tag u bs e)) → X
+no-datagram d m size tag u bs e q = let z : _≡_ {A = ℕ} 0 1 = ap kindOf q in absurd (omega arith)
 
-module _ (ctx : List ℕ) (a : Arrival) (s : List ℕ) (size tag u : ℕ) (bs : List ℕ) (e : Bool) where
+module _ (ctx : List ℕ) (a : Arrival) (s : List ℕ) (size tag u : ℕ) (bs : List ℕ) (e : UdpSum) where
   no-whole : {X : Type 0} → whole ctx a s ≡ is (part size tag u bs e) → X
   unfolding whole
   no-whole q = go (expansion ctx (AddressField.Some (a .src)) (AddressField.Some (a .dst)) WordField.None s (a .at)) q
     where
-      go : {X : Type 0} (r : Answer Expansion) → andThen r (λ x. is (datagram (x .bytes))) ≡ is (part size tag u bs e) → X
-      go (is x) q = no-datagram (x .bytes) size tag u bs e q
+      go : {X : Type 0} (r : Answer Expansion) → andThen r (λ x. is (datagram (x .bytes) (x .sum))) ≡ is (part size tag u bs e) → X
+      go (is x) q = no-datagram (x .bytes) (x .sum) size tag u bs e q
       go (refused n) q = not-refused (part size tag u bs e) n q
 
   piece-header : (h : Repr) (n : ℕ) → piece ctx a h n s ≡ is (part size tag u bs e) → (sizeOf h ≡ size) × (tagOf h ≡ tag)
   unfolding piece
   piece-header (FirstFragment size′ tag′) n q = go (expansion ctx (AddressField.Some (a .src)) (AddressField.Some (a .dst)) (WordField.Some size′) s n) q
     where
-      go : (r : Answer Expansion) → andThen r (λ x. is (part size′ tag′ 0 (x .bytes) (x .elided))) ≡ is (part size tag u bs e) → (size′ ≡ size) × (tag′ ≡ tag)
+      go : (r : Answer Expansion) → andThen r (λ x. is (part size′ tag′ 0 (x .bytes) (x .sum))) ≡ is (part size tag u bs e) → (size′ ≡ size) × (tag′ ≡ tag)
       go (is x) q = (ap sizeIn q, ap tagIn q)
       go (refused n) q = not-refused (part size tag u bs e) n q
   piece-header (Fragment size′ tag′ o) n q = go (eqb (o .0) 0) q
     where
-      go : (b : Bool) → choose b (refused 10) (is (part size′ tag′ (o .0) (drop n s) false)) ≡ is (part size tag u bs e) → (size′ ≡ size) × (tag′ ≡ tag)
+      go : (b : Bool) → choose b (refused 10) (is (part size′ tag′ (o .0) (drop n s) noSum)) ≡ is (part size tag u bs e) → (size′ ≡ size) × (tag′ ≡ tag)
       go true q = not-refused (part size tag u bs e) 10 q
       go false q = (ap sizeIn q, ap tagIn q)
 

@@ -1,4 +1,4 @@
--- An unfragmented datagram has 40 to 175 bytes.
+-- An unfragmented datagram has 40 to 455 bytes.
 use Prim.Native.Nat.{ℕ, _≤_}
 use mathlib.Core.Path.{_≡_, refl}
 use mathlib.Core.Bool.{Bool, true, false}
@@ -14,8 +14,9 @@ use Rattle.sixlowpan.specs.Dispatch.{dispatch}
 use Rattle.sixlowpan.specs.Frag.{frag}
 use Rattle.sixlowpan.specs.declared.frag.Repr.{Repr}
 use Rattle.sixlowpan.specs.declared.frag.Repr.the-variants.{FirstFragment, Fragment}
+use Rattle.expand.specs.Sum.{noSum}
 use Rattle.expand.specs.Expand.{expansion}
-use Rattle.expand.proofs.Datagrams.{expansion-made, at-least-40, at-most-175}
+use Rattle.expand.proofs.Datagrams.{expansion-made, at-least-40, at-most-455}
 use Rattle.incoming.specs.Incoming.{Brought, datagram, part, whole, piece, fragment, byKind, payload}
 use Rattle.incoming.specs.declared.arrival.Arrival.{Arrival}
 
@@ -25,7 +26,7 @@ then-all P (refused n) k f g = f n
 
 -- a whole datagram
 abbrev pub SizedBrought : Answer Brought → Type 0
-SizedBrought (is (datagram d)) = (40 ≤ length d) × (length d ≤ 175)
+SizedBrought (is (datagram d m)) = (40 ≤ length d) × (length d ≤ 455)
 SizedBrought (is (part size tag u bs e)) = Unit {0}
 SizedBrought (refused n) = Unit {0}
 
@@ -40,13 +41,13 @@ module _ (ctx : List ℕ) (a : Arrival) (s : List ℕ) where
       then-all SizedBrought (expansion ctx (AddressField.Some (a .src)) (AddressField.Some (a .dst)) WordField.None s (a .at)) _ (λ n. tt)
       (λ e q.
       let made = expansion-made ctx _ _ _ s (a .at) e q in
-      (at-least-40 ctx _ _ _ s (a .at) e made, at-most-175 ctx _ _ _ s (a .at) e made))
+      (at-least-40 ctx _ _ _ s (a .at) e made, at-most-455 ctx _ _ _ s (a .at) e made))
 
   piece-sized : (h : Repr) (next : ℕ) → SizedBrought (piece ctx a h next s)
   unfolding piece
   piece-sized (FirstFragment size tag) next =
       then-all SizedBrought (expansion ctx (AddressField.Some (a .src)) (AddressField.Some (a .dst)) (WordField.Some size) s next) _ (λ n. tt) (λ e q. tt)
-  piece-sized (Fragment size tag o) next = either (eqb (o .0) 0) (refused 10) (is (part size tag (o .0) (drop next s) false)) tt tt
+  piece-sized (Fragment size tag o) next = either (eqb (o .0) 0) (refused 10) (is (part size tag (o .0) (drop next s) noSum)) tt tt
 
   kind-sized : (k : SixlowpanPacket) → SizedBrought (byKind k ctx a s)
   unfolding fragment

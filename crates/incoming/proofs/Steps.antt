@@ -1,4 +1,4 @@
--- Steps for `search`: what an expansion into a scratch of 175 bytes or more says, which is always enough; and for callers, what the answers of
+-- Steps for `search`: what an expansion into a scratch of 455 bytes or more says, which is always enough; and for callers, what the answers of
 -- this crate say of the specification's next step.
 use Prim.Native.Nat.{ℕ, _≤_, _<_}
 use native.Mathlib.Omega.{arith}
@@ -31,8 +31,10 @@ use Rattle.sixlowpan.specs.declared.frag.Units.{Units}
 use Rattle.sixlowpan.specs.declared.frag.Repr.{Repr}
 use Rattle.sixlowpan.specs.declared.frag.Repr.the-variants.{FirstFragment, Fragment}
 use Rattle.expand.specs.Expand.{Expansion, Measure, expansion, ofExpanded, measureOf, answered, written}
+use Rattle.expand.specs.Sum.{noSum}
+use Rattle.expand.specs.declared.checksum.UdpSum.{UdpSum}
 use Rattle.expand.specs.declared.datagram.Expanded.{Expanded}
-use Rattle.expand.proofs.Datagrams.{expansion-made, at-most-175}
+use Rattle.expand.proofs.Datagrams.{expansion-made, at-most-455}
 use Rattle.incoming.specs.Incoming.{ofArrival, framed, arrival, Brought, datagram, part, scratchAfter, whole, piece, fragment, payload, payloadIn, Brings}
 use Rattle.incoming.specs.declared.arrival.Arrival.{Arrival}
 use Rattle.incoming.specs.declared.payload.Payload.{Payload}
@@ -55,40 +57,40 @@ arrival-short s a e = go (framed s) refl _ e
     go (is b) q k e = framed-short s b q
     go (refused n) q k e = not-refused _ n e
 
--- ---- a scratch of 175 bytes is enough
-pub in-room : (room ctx : List ℕ) (a : Arrival) (s : List ℕ) → 175 ≤ length room → payloadIn room ctx a s ≡ payload ctx a s
+-- ---- a scratch of 455 bytes is enough
+pub in-room : (room ctx : List ℕ) (a : Arrival) (s : List ℕ) → 455 ≤ length room → payloadIn room ctx a s ≡ payload ctx a s
 unfolding payloadIn
-in-room room ctx a s big = rw (le-leb 175 (length room) big)
+in-room room ctx a s big = rw (le-leb 455 (length room) big)
 
--- ---- an expansion m of at most 175 bytes, into a room of 175 at least
+-- ---- an expansion m of at most 455 bytes, into a room of 455 at least
 Small : Answer Expansion → Type 0
-Small m = (e : Expansion) → m ≡ is e → length (e .bytes) ≤ 175
+Small m = (e : Expansion) → m ≡ is e → length (e .bytes) ≤ 455
 
 small : (ctx : List ℕ) (ls ld : AddressField) (size : WordField) (s : List ℕ) (at : ℕ) → Small (expansion ctx ls ld size s at)
 unfolding Small
-small ctx ls ld size s at e p = at-most-175 ctx ls ld size s at e (expansion-made ctx ls ld size s at e p)
+small ctx ls ld size s at e p = at-most-455 ctx ls ld size s at e (expansion-made ctx ls ld size s at e p)
 
--- what a datagram of n bytes, and whether its checksum was elided, say
-got-expanded : (m : Answer Expansion) → Small m → (room l : List ℕ) (n : ℕ) (el : Bool) → 175 ≤ length room → ofExpanded (Expanded.Datagram n el) ≡ answered m room → l ≡ written m room
-    → (e : Expansion) × (m ≡ is e) × (take n l ≡ e .bytes) × (el ≡ e .elided) × (n ≤ length l)
+-- what a datagram of n bytes, and what is remembered of its checksum, say
+got-expanded : (m : Answer Expansion) → Small m → (room l : List ℕ) (n : ℕ) (el : UdpSum) → 455 ≤ length room → ofExpanded (Expanded.Datagram n el) ≡ answered m room → l ≡ written m room
+    → (e : Expansion) × (m ≡ is e) × (take n l ≡ e .bytes) × (el ≡ e .sum) × (n ≤ length l)
 unfolding Small
 got-expanded (refused k) h room l n el r p q = not-refused _ k (sym p)
 got-expanded (is e) h room l n el r p q =
     let b : length (e .bytes) ≤ length room = omega (arith, h e refl) in
-    let g : is (record { len = n; elided = el }) ≡ is (measureOf e) = p ∙ rw (le-leb (length (e .bytes)) (length room) b) refl in
+    let g : is (record { len = n; sum = el }) ≡ is (measureOf e) = p ∙ rw (le-leb (length (e .bytes)) (length room) b) refl in
     let i : n ≡ length (e .bytes) = ap lenOf g in
     let w : l ≡ e .bytes ++ drop (length (e .bytes)) room = q ∙ rw (le-leb (length (e .bytes)) (length room) b) refl in
-    (e, refl, ap (take n) w ∙ take-at (e .bytes) (drop (length (e .bytes)) room) n (sym i), ap elidedOf g, omega (arith, i, ap length w, length-append (e .bytes) (drop (length (e .bytes)) room)))
+    (e, refl, ap (take n) w ∙ take-at (e .bytes) (drop (length (e .bytes)) room) n (sym i), ap sumOf g, omega (arith, i, ap length w, length-append (e .bytes) (drop (length (e .bytes)) room)))
   where
     lenOf : Answer Measure → ℕ
     lenOf (is x) = x .len
     lenOf (refused k) = 0
 
-    elidedOf : Answer Measure → Bool
-    elidedOf (is x) = x .elided
-    elidedOf (refused k) = false
+    sumOf : Answer Measure → UdpSum
+    sumOf (is x) = x .sum
+    sumOf (refused k) = noSum
 
-no-expanded : {B : Type 0} (m : Answer Expansion) (k : Expansion → Answer B) → Small m → (room : List ℕ) (e : Refusal) → 175 ≤ length room → ofExpanded (Expanded.Refused e) ≡ answered m room → refused (numberOf e) ≡ andThen m k
+no-expanded : {B : Type 0} (m : Answer Expansion) (k : Expansion → Answer B) → Small m → (room : List ℕ) (e : Refusal) → 455 ≤ length room → ofExpanded (Expanded.Refused e) ≡ answered m room → refused (numberOf e) ≡ andThen m k
 unfolding Small
 no-expanded (refused j) k h room e r p = ap numbered p
   where
@@ -101,24 +103,24 @@ no-expanded (is x) k h room e r p =
     not-refused (measureOf x) (numberOf e) g
 
 -- what the room holds then
-scratch-whole : (m : Answer Expansion) (room : List ℕ) → written m room ≡ scratchAfter (andThen m (λ e. is (datagram (e .bytes)))) room
+scratch-whole : (m : Answer Expansion) (room : List ℕ) → written m room ≡ scratchAfter (andThen m (λ e. is (datagram (e .bytes) (e .sum)))) room
 scratch-whole (is e) room = refl
 scratch-whole (refused n) room = refl
 
-scratch-first : (m : Answer Expansion) (size tag : ℕ) (room : List ℕ) → written m room ≡ scratchAfter (andThen m (λ e. is (part size tag 0 (e .bytes) (e .elided)))) room
+scratch-first : (m : Answer Expansion) (size tag : ℕ) (room : List ℕ) → written m room ≡ scratchAfter (andThen m (λ e. is (part size tag 0 (e .bytes) (e .sum)))) room
 scratch-first (is e) size tag room = refl
 scratch-first (refused n) size tag room = refl
 
-module _ (ctx : List ℕ) (a : Arrival) (s : List ℕ) (room l : List ℕ) (y : Expanded) (r : 175 ≤ length room) where
+module _ (ctx : List ℕ) (a : Arrival) (s : List ℕ) (room l : List ℕ) (y : Expanded) (r : 455 ≤ length room) where
   abbrev wholly : Answer Expansion
   wholly = expansion ctx (AddressField.Some (a .src)) (AddressField.Some (a .dst)) WordField.None s (a .at)
 
-  pub on-whole : (n : ℕ) (el : Bool) → ofExpanded y ≡ answered wholly room → l ≡ written wholly room → y ≡ Expanded.Datagram n el → Brings (Payload.Whole n) room l s (whole ctx a s)
+  pub on-whole : (n : ℕ) (el : UdpSum) → ofExpanded y ≡ answered wholly room → l ≡ written wholly room → y ≡ Expanded.Datagram n el → Brings (Payload.Whole n el) room l s (whole ctx a s)
   unfolding whole
   on-whole n el p q z =
       let g = got-expanded wholly (small ctx _ _ WordField.None s (a .at)) room l n el r (sym (ap ofExpanded z) ∙ p) q in
       record {
-        answer = ap (λ t. is (datagram t)) (g .2) ∙ sym (ap (λ t. andThen t (λ e. is (datagram (e .bytes)))) (g .1));
+        answer = ap₂ (λ t u. is (datagram t u)) (g .2) (g .3) ∙ sym (ap (λ t. andThen t (λ e. is (datagram (e .bytes) (e .sum)))) (g .1));
         within = g .4;
         scratch = q ∙ scratch-whole wholly room;
       }
@@ -127,7 +129,7 @@ module _ (ctx : List ℕ) (a : Arrival) (s : List ℕ) (room l : List ℕ) (y : 
   unfolding whole
   no-whole e p q z =
       record {
-        answer = no-expanded wholly (λ x. is (datagram (x .bytes))) (small ctx _ _ WordField.None s (a .at)) room e r (sym (ap ofExpanded z) ∙ p);
+        answer = no-expanded wholly (λ x. is (datagram (x .bytes) (x .sum))) (small ctx _ _ WordField.None s (a .at)) room e r (sym (ap ofExpanded z) ∙ p);
         within = tt;
         scratch = q ∙ scratch-whole wholly room;
       }
@@ -136,13 +138,13 @@ module _ (ctx : List ℕ) (a : Arrival) (s : List ℕ) (room l : List ℕ) (y : 
     abbrev firstly : Answer Expansion
     firstly = expansion ctx (AddressField.Some (a .src)) (AddressField.Some (a .dst)) (WordField.Some size) s next
 
-    pub on-first : (h : Repr) (n : ℕ) (el : Bool) → h ≡ FirstFragment size tag → ofExpanded y ≡ answered firstly room → l ≡ written firstly room → y ≡ Expanded.Datagram n el → Brings (Payload.First size tag n el) room l s (piece ctx a h next s)
+    pub on-first : (h : Repr) (n : ℕ) (el : UdpSum) → h ≡ FirstFragment size tag → ofExpanded y ≡ answered firstly room → l ≡ written firstly room → y ≡ Expanded.Datagram n el → Brings (Payload.First size tag n el) room l s (piece ctx a h next s)
     unfolding piece
     on-first h n el q p w z =
         let g = got-expanded firstly (small ctx _ _ (WordField.Some size) s next) room l n el r (sym (ap ofExpanded z) ∙ p) w in
         rw q
         (record {
-          answer = ap₂ (λ t u. is (part size tag 0 t u)) (g .2) (g .3) ∙ sym (ap (λ t. andThen t (λ e. is (part size tag 0 (e .bytes) (e .elided)))) (g .1));
+          answer = ap₂ (λ t u. is (part size tag 0 t u)) (g .2) (g .3) ∙ sym (ap (λ t. andThen t (λ e. is (part size tag 0 (e .bytes) (e .sum)))) (g .1));
           within = g .4;
           scratch = w ∙ scratch-first firstly size tag room;
         })
@@ -152,7 +154,7 @@ module _ (ctx : List ℕ) (a : Arrival) (s : List ℕ) (room l : List ℕ) (y : 
     no-first h e q p w z =
         rw q
         (record {
-          answer = no-expanded firstly (λ x. is (part size tag 0 (x .bytes) (x .elided))) (small ctx _ _ (WordField.Some size) s next) room e r (sym (ap ofExpanded z) ∙ p);
+          answer = no-expanded firstly (λ x. is (part size tag 0 (x .bytes) (x .sum))) (small ctx _ _ (WordField.Some size) s next) room e r (sym (ap ofExpanded z) ∙ p);
           within = tt;
           scratch = w ∙ scratch-first firstly size tag room;
         })
@@ -178,22 +180,22 @@ pub no-fragment : (ctx : List ℕ) (a : Arrival) (s room : List ℕ) (y : Parsed
 unfolding fragment
 no-fragment ctx a s room y e p q = rw (sym p ∙ ap ofParsed q) (record { answer = refl; within = tt; scratch = refl })
 
-module _ (ctx : List ℕ) (a : Arrival) (s room l : List ℕ) (y : DispatchAnswer) (p : ofDispatch y ≡ dispatch s (a .at)) (i : 175 ≤ length room) where
+module _ (ctx : List ℕ) (a : Arrival) (s room l : List ℕ) (y : DispatchAnswer) (p : ofDispatch y ≡ dispatch s (a .at)) (i : 455 ≤ length room) where
   pub kind-fragment : (r : Payload) (k : SixlowpanPacket) → y ≡ DispatchAnswer.Is k → k ≡ FragmentHeader → Brings r room l s (fragment ctx a s) → Brings r room l s (payloadIn room ctx a s)
   unfolding payloadIn payload
-  kind-fragment r k q z b = rw (le-leb 175 (length room) i, sym p ∙ ap ofDispatch q, z) b
+  kind-fragment r k q z b = rw (le-leb 455 (length room) i, sym p ∙ ap ofDispatch q, z) b
 
   pub kind-iphc : (r : Payload) (k : SixlowpanPacket) → y ≡ DispatchAnswer.Is k → k ≡ IphcHeader → Brings r room l s (whole ctx a s) → Brings r room l s (payloadIn room ctx a s)
   unfolding payloadIn payload
-  kind-iphc r k q z b = rw (le-leb 175 (length room) i, sym p ∙ ap ofDispatch q, z) b
+  kind-iphc r k q z b = rw (le-leb 455 (length room) i, sym p ∙ ap ofDispatch q, z) b
 
-pub no-kind : (ctx : List ℕ) (a : Arrival) (s room : List ℕ) (y : DispatchAnswer) (e : Refusal) → ofDispatch y ≡ dispatch s (a .at) → 175 ≤ length room → y ≡ DispatchAnswer.Refused e → Brings (Payload.Refused e) room room s (payloadIn room ctx a s)
+pub no-kind : (ctx : List ℕ) (a : Arrival) (s room : List ℕ) (y : DispatchAnswer) (e : Refusal) → ofDispatch y ≡ dispatch s (a .at) → 455 ≤ length room → y ≡ DispatchAnswer.Refused e → Brings (Payload.Refused e) room room s (payloadIn room ctx a s)
 unfolding payloadIn payload
-no-kind ctx a s room y e p i q = rw (le-leb 175 (length room) i, sym p ∙ ap ofDispatch q) (record { answer = refl; within = tt; scratch = refl })
+no-kind ctx a s room y e p i q = rw (le-leb 455 (length room) i, sym p ∙ ap ofDispatch q) (record { answer = refl; within = tt; scratch = refl })
 
-pub no-room : (ctx : List ℕ) (a : Arrival) (s room : List ℕ) → length room < 175 → Brings (Payload.Refused NoRoom) room room s (payloadIn room ctx a s)
+pub no-room : (ctx : List ℕ) (a : Arrival) (s room : List ℕ) → length room < 455 → Brings (Payload.Refused NoRoom) room room s (payloadIn room ctx a s)
 unfolding payloadIn
-no-room ctx a s room h = rw (lt-leb 175 (length room) h) (record { answer = refl; within = tt; scratch = refl })
+no-room ctx a s room h = rw (lt-leb 455 (length room) h) (record { answer = refl; within = tt; scratch = refl })
 
 pub ruleset payloads = (on-whole, no-whole, on-first, no-first, later-zero, later-some, header-within, on-fragment, no-fragment, kind-fragment, kind-iphc, no-kind, no-room)
 

@@ -22,7 +22,7 @@ arrival-one = one ofArrival ArrivalAnswer.Is ArrivalAnswer.Refused inv
 
 -- the way back from what the frame s brings
 abbrev answerTo : List ℕ → Answer Brought → Payload
-answerTo s (is (datagram d)) = Payload.Whole (length d)
+answerTo s (is (datagram d m)) = Payload.Whole (length d) m
 answerTo s (is (part size tag u bs e)) = choose (eqb u 0) (Payload.First size tag (length bs) e) (Payload.Later size tag (record { 0 = u }) (length s - length bs))
 answerTo s (refused n) = Payload.Refused (refusalOf n)
 
@@ -33,7 +33,7 @@ dropped : (n : ℕ) (s : List ℕ) → n ≤ length s → length s - length (dro
 dropped n s h = omega (arith, length-drop n s)
 
 answer-is : (r : Payload) (room l s : List ℕ) (b : Answer Brought) → Brings r room l s b → answerTo s b ≡ r
-answer-is (Payload.Whole n) room l s b B = rw (sym (B .answer)) (ap Payload.Whole (taken n l (B .within)))
+answer-is (Payload.Whole n m) room l s b B = rw (sym (B .answer)) (ap (λ k. Payload.Whole k m) (taken n l (B .within)))
 answer-is (Payload.First size tag n e) room l s b B = rw (sym (B .answer)) (ap (λ k. Payload.First size tag k e) (taken n l (B .within)))
 answer-is (Payload.Later size tag o from) room l s b B =
     let z : eqb (o .0) 0 ≡ false = ne-eqb (o .0) 0 (λ h. omega (arith, h, B .within .1)) in

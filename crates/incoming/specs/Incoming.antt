@@ -1,7 +1,6 @@
 -- What a frame brings, in the scope document's order of checks ("Expansion and the slot table").
 use Prim.Native.Nat.{ℕ, _≤_}
 use mathlib.Core.List.{List}
-use mathlib.Core.Bool.{Bool, true, false}
 use mathlib.Core.Path.{_≡_}
 use lib.ListN.{length, take, drop}
 use lib.Dec.{eqb, leb}
@@ -24,7 +23,9 @@ use Rattle.sixlowpan.specs.declared.dispatch.SixlowpanPacket.{SixlowpanPacket}
 use Rattle.sixlowpan.specs.declared.dispatch.SixlowpanPacket.the-variants.{FragmentHeader, IphcHeader}
 use Rattle.sixlowpan.specs.declared.frag.Repr.{Repr}
 use Rattle.sixlowpan.specs.declared.frag.Repr.the-variants.{FirstFragment, Fragment}
+use Rattle.expand.specs.Sum.{noSum}
 use Rattle.expand.specs.Expand.{Expansion, expansion}
+use Rattle.expand.specs.declared.checksum.UdpSum.{UdpSum}
 use Rattle.incoming.specs.declared.arrival.Arrival.{Arrival}
 use Rattle.incoming.specs.declared.arrival.ArrivalAnswer.{ArrivalAnswer}
 use Rattle.incoming.specs.declared.payload.Payload.{Payload}
@@ -69,33 +70,33 @@ unfoldable pub arrival : List ℕ → Answer Arrival
 arrival s = andThen (framed s) (λ a. andThen (relay s (a .at)) (λ p. is (through a (p .value .mesh) (p .next))))
 
 -- ---- what it brings: a whole datagram; or a part of one, with the size and tag of its key, the unit of 8 bytes that it begins at, its
--- bytes, a first part's in full, and whether its checksum was elided
+-- bytes, a first part's in full; each with what is to be remembered of its UDP checksum
 pub data Brought : Type 0 where
-  datagram : List ℕ → Brought
-  part : ℕ → ℕ → ℕ → List ℕ → Bool → Brought
+  datagram : List ℕ → UdpSum → Brought
+  part : ℕ → ℕ → ℕ → List ℕ → UdpSum → Brought
 
 -- sc: the scratch after the call; s: the frame
 abbrev pub ofPayload : Payload → List ℕ → List ℕ → Answer Brought
-ofPayload (Payload.Whole n) sc s = is (datagram (take n sc))
+ofPayload (Payload.Whole n m) sc s = is (datagram (take n sc) m)
 ofPayload (Payload.First size tag n e) sc s = is (part size tag 0 (take n sc) e)
-ofPayload (Payload.Later size tag o from) sc s = is (part size tag (o .0) (drop from s) false)
+ofPayload (Payload.Later size tag o from) sc s = is (part size tag (o .0) (drop from s) noSum)
 ofPayload (Payload.Refused e) sc s = refused (numberOf e)
 
 -- the scratch after the call: what was expanded stands at its start, and nothing else of it changes
 abbrev pub scratchAfter : Answer Brought → List ℕ → List ℕ
-scratchAfter (is (datagram d)) room = over (length d) d room
+scratchAfter (is (datagram d m)) room = over (length d) d room
 scratchAfter (is (part size tag u bs e)) room = choose (eqb u 0) (over (length bs) bs room) room
 scratchAfter (refused n) room = room
 
 -- an unfragmented datagram is expanded
 unfoldable pub whole : List ℕ → Arrival → List ℕ → Answer Brought
-whole ctx a s = andThen (expansion ctx (AddressField.Some (a .src)) (AddressField.Some (a .dst)) WordField.None s (a .at)) (λ e. is (datagram (e .bytes)))
+whole ctx a s = andThen (expansion ctx (AddressField.Some (a .src)) (AddressField.Some (a .dst)) WordField.None s (a .at)) (λ e. is (datagram (e .bytes) (e .sum)))
 
 -- a first part is expanded; offset 0 in a later part is refused, 10
 unfoldable pub piece : List ℕ → Arrival → Repr → ℕ → List ℕ → Answer Brought
 piece ctx a (FirstFragment size tag) next s =
-    andThen (expansion ctx (AddressField.Some (a .src)) (AddressField.Some (a .dst)) (WordField.Some size) s next) (λ e. is (part size tag 0 (e .bytes) (e .elided)))
-piece ctx a (Fragment size tag o) next s = choose (eqb (o .0) 0) (refused 10) (is (part size tag (o .0) (drop next s) false))
+    andThen (expansion ctx (AddressField.Some (a .src)) (AddressField.Some (a .dst)) (WordField.Some size) s next) (λ e. is (part size tag 0 (e .bytes) (e .sum)))
+piece ctx a (Fragment size tag o) next s = choose (eqb (o .0) 0) (refused 10) (is (part size tag (o .0) (drop next s) noSum))
 
 unfoldable pub fragment : List ℕ → Arrival → List ℕ → Answer Brought
 fragment ctx a s = andThen (frag s (a .at)) (λ p. piece ctx a (p .value) (p .next) s)
@@ -110,11 +111,11 @@ payload ctx a s = andThen (dispatch s (a .at)) (λ k. byKind k ctx a s)
 
 -- 7 where the scratch is shorter than the longest expansion
 unfoldable pub payloadIn : List ℕ → List ℕ → Arrival → List ℕ → Answer Brought
-payloadIn room ctx a s = choose (leb 175 (length room)) (payload ctx a s) (refused 7)
+payloadIn room ctx a s = choose (leb 455 (length room)) (payload ctx a s) (refused 7)
 
 -- what the answer points at lies within the scratch l and the frame s; a later part is not at the start
 abbrev pub Within : Payload → List ℕ → List ℕ → Type 0
-Within (Payload.Whole n) l s = n ≤ length l
+Within (Payload.Whole n m) l s = n ≤ length l
 Within (Payload.First size tag n e) l s = n ≤ length l
 Within (Payload.Later size tag o from) l s = (from ≤ length s) × (1 ≤ o .0)
 Within (Payload.Refused e) l s = Unit {0}

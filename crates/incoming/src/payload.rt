@@ -4,6 +4,7 @@ ghost use lib.ListN.{length};
 ghost use Rattle.incoming.specs.Incoming.{Brings, whole, piece, fragment, payloadIn};
 use super::arrival::Arrival;
 use expand::Expanded;
+use expand::checksum::UdpSum;
 use expand::expand;
 use ieee802154::AddressField;
 use octets::cursor::Cursor;
@@ -17,12 +18,15 @@ use sixlowpan::frag::Units;
 // What a payload is. The bytes of a whole datagram and of a first part, in full, stand at the scratch's start; those of a
 // later part stand in the frame, from a place on.
 pub enum Payload {
-    Whole(usize),
+    Whole {
+        len: usize,
+        sum: UdpSum,
+    },
     First {
         size: u16,
         tag: u16,
         len: usize,
-        elided: bool,
+        sum: UdpSum,
     },
     Later {
         size: u16,
@@ -35,7 +39,7 @@ pub enum Payload {
 
 // An unfragmented datagram.
 fn read_whole(frame: &[u8], a: Arrival, contexts: &[u8], scratch: &mut [u8]) -> Payload
-    requires { ⌜ 175 ≤ length (now scratch) ⌝ }
+    requires { ⌜ 455 ≤ length (now scratch) ⌝ }
     ensures { λ r. ⌜ Brings r (now (scratch .entry)) (now (scratch .exit)) (now (frame .entry)) (whole (now (contexts .entry)) a (now (frame .entry))) ⌝ }
 {
     let src = a.src;
@@ -44,7 +48,7 @@ fn read_whole(frame: &[u8], a: Arrival, contexts: &[u8], scratch: &mut [u8]) -> 
     let ld = AddressField::Some(dst);
     let c = Cursor { at: a.at };
     match expand(frame, c, ls, ld, contexts, WordField::None, scratch) {
-        Expanded::Datagram { len, elided: _ } => Payload::Whole(len),
+        Expanded::Datagram { len, sum } => Payload::Whole { len, sum },
         Expanded::Refused(e) => Payload::Refused(e),
     }
 }
@@ -58,7 +62,7 @@ fn read_part(
     contexts: &[u8],
     scratch: &mut [u8],
 ) -> Payload
-    requires { ⌜ (175 ≤ length (now scratch)) × (next ≤ length (now frame)) ⌝ }
+    requires { ⌜ (455 ≤ length (now scratch)) × (next ≤ length (now frame)) ⌝ }
     ensures { λ r. ⌜ Brings r (now (scratch .entry)) (now (scratch .exit)) (now (frame .entry)) (piece (now (contexts .entry)) a h next (now (frame .entry))) ⌝ }
 {
     match h {
@@ -69,11 +73,11 @@ fn read_part(
             let ld = AddressField::Some(dst);
             let c = Cursor { at: next };
             match expand(frame, c, ls, ld, contexts, WordField::Some(size), scratch) {
-                Expanded::Datagram { len, elided } => Payload::First {
+                Expanded::Datagram { len, sum } => Payload::First {
                     size,
                     tag,
                     len,
-                    elided,
+                    sum,
                 },
                 Expanded::Refused(e) => Payload::Refused(e),
             }
@@ -93,7 +97,7 @@ fn read_part(
 }
 
 fn read_fragment(frame: &[u8], a: Arrival, contexts: &[u8], scratch: &mut [u8]) -> Payload
-    requires { ⌜ 175 ≤ length (now scratch) ⌝ }
+    requires { ⌜ 455 ≤ length (now scratch) ⌝ }
     ensures { λ r. ⌜ Brings r (now (scratch .entry)) (now (scratch .exit)) (now (frame .entry)) (fragment (now (contexts .entry)) a (now (frame .entry))) ⌝ }
 {
     match frag::Repr::read(frame, Cursor { at: a.at }) {
@@ -104,11 +108,11 @@ fn read_fragment(frame: &[u8], a: Arrival, contexts: &[u8], scratch: &mut [u8]) 
 
 impl Payload {
     // What stands behind the MAC header: by its dispatch, a compressed header or a fragment header.
-    // The scratch holds what is expanded: 7 where it is shorter than the longest expansion, 175 bytes.
+    // The scratch holds what is expanded: 7 where it is shorter than the longest expansion, 455 bytes.
     pub fn read(frame: &[u8], a: Arrival, contexts: &[u8], scratch: &mut [u8]) -> Payload
         ensures { λ r. ⌜ Brings r (now (scratch .entry)) (now (scratch .exit)) (now (frame .entry)) (payloadIn (now (scratch .entry)) (now (contexts .entry)) a (now (frame .entry))) ⌝ }
     {
-        if scratch.len() < 175 {
+        if scratch.len() < 455 {
             return Payload::Refused(Refusal::NoRoom);
         }
         match SixlowpanPacket::dispatch_at(frame, Cursor { at: a.at }) {

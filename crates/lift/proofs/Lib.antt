@@ -1,6 +1,5 @@
 pub mod Lists
 pub mod Lengths
-pub mod ByValue
 pub mod InPlace
 pub mod Items
 pub mod Sending

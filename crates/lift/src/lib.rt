@@ -1,34 +1,31 @@
 // The receiver for C and Rust to link (include/lift.h): slices, numbers, and a table that the caller keeps.
 //
-// `lift_begin_flat` makes a table of its gateways, `lift_receive` hands it a frame, `lift_free` and `lift_held` count its slots.
-// What each number means is in specs/Face.antt; the answer, the table and every lent byte after a call are those of the slot
-// table's `step`, as for the by-value call `receiver::receive`. The table is changed in place, in three turns (specs/InPlace.antt):
-// `lift_receive` takes the time, `receive_timed` reads the frame, `take` brings its part to a slot.
+// `lift_begin_flat` makes a table of its gateways, `lift_receive` hands it a frame, `lift_free` and `lift_held` count
+// its slots. What each number means is in specs/Face.antt; the answer, the table and every lent byte after a call are
+// those of the slot table's `step`, as for the by-value call `receiver::receive`. The table is changed in place, in
+// three turns over the steps of `receiver::call` (specs/InPlace.antt): `lift_receive` takes the time, `receive_timed`
+// reads the frame, `take` brings its part to a slot.
 //
 // - `send`: what we send, `lift_cut` and `lift_frames`.
 pub mod send;
 
 ghost use mathlib.Core.Path.{_≡_};
 ghost use Prim.Native.Nat.{_<_, _≤_};
-ghost use lib.ListN.{length, take};
 ghost use lib.Dec.{eqb};
 ghost use Rattle.octets.specs.Read.{choose};
-ghost use Rattle.reassembly.specs.Lists.{firstAt};
-ghost use Rattle.reassembly.specs.Slots.{owner, isKey, gatesOf, free, held, opening};
+ghost use Rattle.reassembly.specs.Slots.{free, held};
 ghost use Rattle.reassembly.specs.Fresh.{gateOf};
-ghost use Rattle.reassembly.specs.Parts.{partOf, ofOutcome};
-ghost use Rattle.reassembly.specs.Table.{takeAt, Lands};
+ghost use Rattle.reassembly.specs.Parts.{ofOutcome};
+ghost use Rattle.reassembly.specs.Table.{takeAt};
 ghost use Rattle.reassembly.specs.declared.table.Table.{Table};
 ghost use Rattle.receiver.specs.Carried.{partIn};
+ghost use Rattle.receiver.specs.Steps.{atOnce};
 ghost use Rattle.lift.specs.Face.{packed, InHalf, addressOf, panFrom, gatewayOf, gatewayAt, begun, tableBegun, received, Answers};
-ghost use Rattle.lift.specs.InPlace.{judged, isTaken, atOnce, Told, PutAt, TakesIn, ReceivesIn};
-use expand::copy::put_part;
+ghost use Rattle.lift.specs.InPlace.{judged, Told, PutAt, TakesIn, ReceivesIn};
 use ieee802154::Address;
 use ieee802154::Pan;
 use ieee802154::PanField;
 use reassembly::Gateway;
-use reassembly::InSlot;
-use reassembly::Key;
 use reassembly::Listed;
 use reassembly::Outcome;
 use reassembly::Slot;
@@ -36,12 +33,12 @@ use reassembly::Source;
 use reassembly::Table;
 use reassembly::count_free;
 use reassembly::count_held;
-use reassembly::is_short;
-use reassembly::part::fits;
-use reassembly::take_at;
 use receiver::Carried;
-use receiver::What;
-use sixlowpan::frag::Units;
+use receiver::call;
+use receiver::call::Judged;
+use receiver::call::find;
+use receiver::call::is_taken;
+use receiver::call::to_open;
 
 // The answer of a call as a number, and the table after it.
 pub struct Lifted {
@@ -148,96 +145,35 @@ fn pack(o: Outcome) -> u32
     }
 }
 
-// Whether the call is taken, before its frame is looked at: 0 where it is, 1 where old slots are to be freed first; otherwise
-// the answer, refusal 7 or 8.
+// Whether the call is taken, before its frame is looked at: 0 where it is, 1 where old slots are to be freed first;
+// otherwise the answer, refusal 7 or 8.
 fn judge(table: Table, time: u64, mem: usize, out: usize) -> u32
     ensures { λ r. ⌜ r ≡ judged table time mem out ⌝ }
 {
-    if is_short(mem, out) {
-        return 131079;
-    }
-    if time < table.last {
-        return 131080;
-    }
-    if table.is_due(time) { 1 } else { 0 }
-}
-
-// Whether a frame carries a part that its datagram can have.
-fn is_taken(c: Carried) -> bool
-    ensures { λ r. ⌜ r ≡ isTaken c ⌝ }
-{
-    let what = c.what;
-    match what {
-        What::Part => {
-            let key = c.key;
-            fits(key.size, c.offset, c.size())
+    match call::judge(table.last, time, mem, out) {
+        Judged::Taken => {
+            if table.is_due(time) {
+                return 1;
+            }
+            0
         }
-        What::Whole => false,
-        What::Refused(_) => false,
+        Judged::Refused(e) => 131072 + (e.number() as u32),
     }
 }
 
-// The answer to a frame that no slot is for: a whole datagram goes to the output's start, a part is refused, 10.
+// The answer to a frame that no slot is for.
 fn answer(c: Carried, out: &mut [u8]) -> u32
-    ensures { λ r. ⌜ Told r (now (out .entry)) (now (out .exit)) (atOnce c) ⌝ }
+    ensures { λ r. ⌜ Told r (now (out .entry)) (now (out .exit)) (atOnce c (now (out .entry))) ⌝ }
 {
-    let what = c.what;
-    match what {
-        What::Part => 131082,
-        What::Whole => {
-            let bytes = c.bytes;
-            let n = c.size();
-            put_part(out, 0, &bytes, 0, n);
-            65536 + (n as u32)
-        }
-        What::Refused(e) => 131072 + (e.number() as u32),
-    }
-}
-
-// The slot that is open under the key of what a frame carries, or 8.
-fn find(table: Table, c: Carried) -> usize
-    ensures { λ r. ⌜ r ≡ firstAt (isKey (c .key)) (table .slots) ⌝ }
-{
-    let key = c.key;
-    table.find(key)
-}
-
-// The slot that what a frame carries may open, or 8.
-fn to_open(table: Table, c: Carried) -> usize
-    ensures { λ r. ⌜ r ≡ opening (owner (c .key)) (gatesOf table) (table .slots) ⌝ }
-{
-    let key = c.key;
-    let g = key.src;
-    reassembly::to_open(table, g)
-}
-
-// A part for slot i, whose record is s: the first n of these bytes, which are lent whole so that they are not copied.
-fn take_first(
-    s: Slot,
-    i: usize,
-    time: u64,
-    key: Key,
-    offset: Units,
-    elided: bool,
-    n: usize,
-    bytes: &[u8],
-    mem: &mut [u8],
-    out: &mut [u8],
-) -> InSlot
-    requires { ⌜ n ≤ length (now bytes) ⌝ }
-    ensures { λ r. ⌜ Lands r i (now (mem .entry)) (now (mem .exit)) (now (out .entry)) (now (out .exit)) (takeAt s i time (partOf key (offset .0) elided (take n (now (bytes .entry)))) (now (mem .entry)) (now (out .entry))) ⌝ }
-{
-    take_at(s, i, time, key, offset, elided, &bytes[0..n], mem, out)
+    let o = call::answer(c, out);
+    pack(o)
 }
 
 // The part that a frame carries, for slot i, whose record is s.
 fn put_at(s: Slot, i: usize, time: u64, c: Carried, mem: &mut [u8], out: &mut [u8]) -> Put
     ensures { λ r. ⌜ PutAt r i (now (mem .entry)) (now (mem .exit)) (now (out .entry)) (now (out .exit)) (takeAt s i time (partIn c) (now (mem .entry)) (now (out .entry))) ⌝ }
 {
-    let n = c.size();
-    let key = c.key;
-    let offset = c.offset;
-    let d = take_first(s, i, time, key, offset, c.elided, n, &c.bytes, mem, out);
+    let d = call::put_at(s, i, time, c, mem, out);
     let outcome = d.outcome;
     let slot = d.slot;
     let answer = pack(outcome);
@@ -254,8 +190,8 @@ fn held_by(table: Table, kind: u64, number: u64) -> usize
     count_held(table, Source::of(addr, pan))
 }
 
-// Makes a table of these gateways, two numbers each: 1 and a short address or 2 and an extended one, with a PAN 65,536 times
-// one more than its identifier added to the first. Answers 0, or 14.
+// Makes a table of these gateways, two numbers each: 1 and a short address or 2 and an extended one, with a PAN
+// 65,536 times one more than its identifier added to the first. Answers 0, or 14.
 #[no_mangle]
 pub extern "C" fn lift_begin_flat(t: &mut Table, gateways: &[u64]) -> u32
     ensures { λ r. ⌜ (r ≡ begun (now (gateways .entry))) × (now (t .exit) ≡ tableBegun (now (t .entry)) (now (gateways .entry))) ⌝ }
@@ -302,8 +238,8 @@ fn receive_timed(
     answer(c, out)
 }
 
-// Hands the table a frame that comes at a time. Answers 0 where a part was kept, 65,536 and a datagram's length, or 131,072
-// and a refusal's number.
+// Hands the table a frame that comes at a time. Answers 0 where a part was kept, 65,536 and a datagram's length, or
+// 131,072 and a refusal's number.
 #[no_mangle]
 pub extern "C" fn lift_receive(
     t: &mut Table,

@@ -23,6 +23,7 @@ use Rattle.ieee802154.specs.Mac.{sequenceOf, reprOf, headerRest, afterControl, 
 use Rattle.ieee802154.specs.declared.addr.Address.the-variants.{Short}
 use Rattle.relay.specs.Headers.{meshField, broadcastField, relay}
 use Rattle.sixlowpan.specs.Dispatch.{dispatchOf, dispatch}
+use Rattle.expand.specs.Sum.{holds}
 use Rattle.expand.specs.Expand.{Expansion}
 use Rattle.expand.proofs.CopyLaws.{length-put}
 use Rattle.expand.proofs.Examples.{printed-example}
@@ -35,7 +36,7 @@ use Rattle.reassembly.specs.Table.{State, Result, other, slotsAt, aged, withSlo
 use Rattle.reassembly.specs.Fresh.{gateOf, seats, fresh}
 use Rattle.reassembly.specs.declared.slot.Source.{Source}
 use Rattle.ieee802154.specs.declared.addr.PanField.{PanField}
-use Rattle.receiver.specs.Receive.{welcome, admitted, brings, frameCall, callOf}
+use Rattle.receiver.specs.Receive.{welcome, admitted, brings, frameCall, callOf, tested}
 use Rattle.listen.specs.Lines.{widthIn, decimal, endLine}
 use Rattle.capture.specs.File.{pieces, blocksOf, joined}
 use Rattle.listen.specs.Heard.{listedAs, Listener, Told, received, afterFrame, saidOf, afterFrames, saidOfAll, hearBlock, starting, thenHeard, hearBlocks, hearAll, lastLine, beginning, heard}
@@ -62,9 +63,9 @@ handed =
     ∷ 0x01 ∷ 0x02 ∷ 0x03 ∷ 0x04 ∷ []
 
 brought : frameCall gates [] 0 (frameFrom 0x01 0x00 .frame) ≡ other 0 (Parts.out handed)
-unfolding frameCall admitted welcome arrival framed relay meshField broadcastField payload whole dispatch dispatchOf mac header byte le16 headerRest afterControl supported saysElements omitsSequence addressing hasAddressing sides side carried carried01 panField addressField auxiliary reprOf sequenceOf hasSequence isGate sameSource sameNode present addressed count
+unfolding frameCall admitted welcome arrival framed relay meshField broadcastField payload whole dispatch dispatchOf mac header byte le16 headerRest afterControl supported saysElements omitsSequence addressing hasAddressing sides side carried carried01 panField addressField auxiliary reprOf sequenceOf hasSequence isGate sameSource sameNode present addressed count tested holds
 brought =
-    ap (λ (e : Answer Expansion). brings 0 (record { src = Short 1; pan = PanField.Some (record { 0 = 0xabcd }); dst = Short 0xffff; at = 9 }) (andThen e (λ (x : Expansion). is (datagram (x .bytes))))) printed-example
+    ap (λ (e : Answer Expansion). brings 0 (record { src = Short 1; pan = PanField.Some (record { 0 = 0xabcd }); dst = Short 0xffff; at = 9 }) (andThen e (λ (x : Expansion). is (datagram (x .bytes) (x .sum))))) printed-example
 
 turned-away : frameCall gates [] 0 (frameFrom 0x34 0x12 .frame) ≡ other 0 (Parts.refused 9)
 unfolding frameCall admitted welcome arrival framed relay meshField broadcastField mac header byte le16 headerRest afterControl supported saysElements omitsSequence addressing hasAddressing sides side carried carried01 panField addressField auxiliary reprOf sequenceOf hasSequence isGate sameSource sameNode present addressed count

@@ -8,7 +8,7 @@ use Rattle.octets.specs.Refusal.{numberOf}
 use Rattle.octets.specs.Answers.{ofByte, ofWord, ofWide, ofLong, ofSkip}
 use Rattle.octets.specs.Write.{ofWritten, wrote, over}
 use Rattle.octets.specs.declared.refusal.Refusal.{Refusal}
-use Rattle.octets.specs.declared.refusal.Refusal.the-variants.{Ended, NotThisHeader, Unsupported, BadLength, NoContext, NoAddress, NoRoom, EarlierTime, NotGateway, BadPart, Clash, NoSlot, NotExpanded, BadGateways, BadBlock, NotCut, NotHeld}
+use Rattle.octets.specs.declared.refusal.Refusal.the-variants.{Ended, NotThisHeader, Unsupported, BadLength, NoContext, NoAddress, NoRoom, EarlierTime, NotGateway, BadPart, Clash, NoSlot, NotExpanded, BadGateways, BadBlock, NotCut, BadChecksum, NotHeld}
 use Rattle.octets.specs.declared.cursor.ByteRead.{ByteRead}
 use Rattle.octets.specs.declared.cursor.WordRead.{WordRead}
 use Rattle.octets.specs.declared.cursor.WideRead.{WideRead}
@@ -23,9 +23,9 @@ Injective {X} f = (y z : X) → f y ≡ f z → y ≡ z
 pub unique : {X A : Type 0} (f : X → A) → Injective f → (m : A) (y z : X) → f y ≡ m → f z ≡ m → y ≡ z
 unique f inj m y z p q = inj y z (p ∙ sym q)
 
--- the refusals, in the order of their numbers from 1; 17 is no refusal, and any stands there
+-- the refusals, in the order of their numbers from 1
 abbrev refusals : List Refusal
-refusals = Ended ∷ NotThisHeader ∷ Unsupported ∷ BadLength ∷ NoContext ∷ NoAddress ∷ NoRoom ∷ EarlierTime ∷ NotGateway ∷ BadPart ∷ Clash ∷ NoSlot ∷ NotExpanded ∷ BadGateways ∷ BadBlock ∷ NotCut ∷ Ended ∷ NotHeld ∷ []
+refusals = Ended ∷ NotThisHeader ∷ Unsupported ∷ BadLength ∷ NoContext ∷ NoAddress ∷ NoRoom ∷ EarlierTime ∷ NotGateway ∷ BadPart ∷ Clash ∷ NoSlot ∷ NotExpanded ∷ BadGateways ∷ BadBlock ∷ NotCut ∷ BadChecksum ∷ NotHeld ∷ []
 
 abbrev pub refusalOf : ℕ → Refusal
 refusalOf n = getD refusals (n - 1) Ended
@@ -47,6 +47,7 @@ refusal-back NotExpanded = refl
 refusal-back BadGateways = refl
 refusal-back BadBlock = refl
 refusal-back NotCut = refl
+refusal-back BadChecksum = refl
 refusal-back NotHeld = refl
 
 pub number-one : Injective numberOf

@@ -1,7 +1,7 @@
 -- The number that the scope document gives each refusal ("Refusal numbers").
 use Prim.Native.Nat.{ℕ}
 use Rattle.octets.specs.declared.refusal.Refusal.{Refusal}
-use Rattle.octets.specs.declared.refusal.Refusal.the-variants.{Ended, NotThisHeader, Unsupported, BadLength, NoContext, NoAddress, NoRoom, EarlierTime, NotGateway, BadPart, Clash, NoSlot, NotExpanded, BadGateways, BadBlock, NotCut, NotHeld}
+use Rattle.octets.specs.declared.refusal.Refusal.the-variants.{Ended, NotThisHeader, Unsupported, BadLength, NoContext, NoAddress, NoRoom, EarlierTime, NotGateway, BadPart, Clash, NoSlot, NotExpanded, BadGateways, BadBlock, NotCut, BadChecksum, NotHeld}
 
 abbrev pub numberOf : Refusal → ℕ
 numberOf Ended = 1
@@ -20,4 +20,5 @@ numberOf NotExpanded = 13
 numberOf BadGateways = 14
 numberOf BadBlock = 15
 numberOf NotCut = 16
+numberOf BadChecksum = 17
 numberOf NotHeld = 18

@@ -28,7 +28,7 @@ pub enum Refusal {
     Clash,
     // No slot may be opened.
     NoSlot,
-    // Secured, not a Data frame, or an extension header to expand.
+    // Secured, not a Data frame, or a header that is not expanded.
     NotExpanded,
     // A gateway list of over four, with two equal, or with an absent address.
     BadGateways,
@@ -36,6 +36,8 @@ pub enum Refusal {
     BadBlock,
     // A datagram that is not cut: not of version 6, of another payload length, or of a traffic class or flow label other than 0.
     NotCut,
+    // A carried checksum that does not hold.
+    BadChecksum,
     // What no capture block can hold: a time, or a frame when no block number is left.
     NotHeld,
 }
@@ -62,6 +64,7 @@ impl Refusal {
             Refusal::BadGateways => 14,
             Refusal::BadBlock => 15,
             Refusal::NotCut => 16,
+            Refusal::BadChecksum => 17,
             Refusal::NotHeld => 18,
         }
     }

@@ -1,6 +1,6 @@
 -- How the parts of one cutting fill one slot: each is kept while they do not cover the datagram, and the one that covers it hands the
 -- datagram out. A repeat changes nothing.
-use Prim.Native.Nat.{ℕ, _*_, _≤_, _<_}
+use Prim.Native.Nat.{ℕ, _+_, _*_, _≤_, _<_}
 use native.Mathlib.Omega.{arith}
 use mathlib.Core.Path.{_≡_, refl, sym, ap, _∙_}
 use mathlib.Core.Logic.{inl, inr}
@@ -9,22 +9,23 @@ use mathlib.Core.List.{List, [], _∷_}
 use lib.ListN.{length, set, take, length-set}
 use lib.Dec.{eqb}
 use lib.Seq.{ext-getD, getD-take, length-take-le}
+use Rattle.expand.specs.Sum.{wasElided}
+use Rattle.expand.specs.declared.checksum.UdpSum.{UdpSum}
 use Rattle.reassembly.specs.Slots.{busy, opened}
-use Rattle.reassembly.specs.Parts.{Part, kept, out, repeats, touches, taken, written, full, finish, place, offer}
+use Rattle.reassembly.specs.Parts.{Part, kept, out, repeats, touches, taken, written, full, handed, place, offer}
 use Rattle.reassembly.specs.declared.slot.Key.{Key}
 use Rattle.reassembly.specs.declared.slot.Slot.{Slot}
 use Rattle.reassembly.proofs.Parts as Parts
-use Rattle.reassembly.proofs.Parts.{taken-stays, place-kept, offer-repeat, offer-clear}
+use Rattle.reassembly.proofs.Parts.{taken-stays, handed-good, place-kept, offer-repeat, offer-clear}
 use Rattle.reassembly.proofs.Tests.{no-both, by-test, not-true-false}
 use Rattle.reassembly.specs.Cover.{In, Has, Covers}
 use Rattle.promises.specs.Cuttings.{zeroed, Cutting}
 use Rattle.reassembly.proofs.Fits.{fit}
 use Rattle.reassembly.proofs.OneSlot.{Holds, holds-nothing, opened-as, taken→repeats, repeats→taken, touches→shared, again, taking, full→covers, covers→full}
 
-pub length-zeroed : (e : Bool) (d : List ℕ) → length (zeroed e d) ≡ length d
+pub length-zeroed : (m : UdpSum) (d : List ℕ) → length (zeroed m d) ≡ length d
 unfolding zeroed
-length-zeroed true d = length-set (set d 46 0) 47 0 ∙ length-set d 46 0
-length-zeroed false d = refl
+length-zeroed m d = by-test (wasElided m) (λ h. rw h (length-set (set d (m .udp + 6) 0) (m .udp + 7) 0 ∙ length-set d (m .udp + 6) 0)) (λ h. rw h refl)
 
 -- ---- how far the parts ps of a cutting have filled a slot s and its memory b, since t
 
@@ -89,21 +90,21 @@ module _ (k : Key) (d : List ℕ) (C : Cutting k d) where
         mine′ p (inr h) = P .mine p h
 
     -- what a full slot hands out is the datagram
-    pub whole : Covers (k .size) ps → 40 ≤ k .size → k .size ≤ 2047 → finish (s .elided) (take (s .key .size) b) ≡ d
+    pub whole : Covers (k .size) ps → 40 ≤ k .size → k .size ≤ 2047 → handed (s .sum) (take (s .key .size) b) ≡ out d
     whole c big small =
         let w = c 0 (omega arith) in
         let w2 : Has (w .0) 0 = w .2 in
         let u : w .0 .unit ≡ 0 = omega arith in
-        let e1 : s .elided ≡ C .elided = P .holds .flag (w .0) (w .1) u ∙ C .flag (w .0) (P .mine (w .0) (w .1)) u in
+        let e1 : s .sum ≡ C .sum = P .holds .flag (w .0) (w .1) u ∙ C .flag (w .0) (P .mine (w .0) (w .1)) u in
         let kz : s .key .size ≡ k .size = ap (λ (z : Key). z .size) (P .key) in
         let l1 : length (take (k .size) b) ≡ k .size = length-take-le (k .size) b (omega (arith, P .holds .bytes-len)) in
-        let l2 : length (zeroed (C .elided) d) ≡ k .size = length-zeroed (C .elided) d ∙ C .sized in
-        let e2 : take (k .size) b ≡ zeroed (C .elided) d = ext-getD 0 (take (k .size) b) (zeroed (C .elided) d) (l1 ∙ sym l2)
+        let l2 : length (zeroed (C .sum) d) ≡ k .size = length-zeroed (C .sum) d ∙ C .sized in
+        let e2 : take (k .size) b ≡ zeroed (C .sum) d = ext-getD 0 (take (k .size) b) (zeroed (C .sum) d) (l1 ∙ sym l2)
         (λ x h.
         let hx : x < k .size = omega arith in
         let v = c x hx in
         getD-take (k .size) b x 0 hx ∙ P .holds .bytes (v .0) (v .1) x (v .2) ∙ C .bytes (v .0) (P .mine (v .0) (v .1)) x (v .2)) in
-        rw (e1, kz, e2) (C .summed)
+        rw (e1, kz, e2) (handed-good (C .sum) (zeroed (C .sum) d) (C .right) ∙ ap out (C .summed))
 
     -- ---- one part of the cutting is offered to the slot
 
@@ -127,7 +128,7 @@ module _ (k : Key) (d : List ℕ) (C : Cutting k d) where
       let f = fit q (C .pass10 q m) in
       let z : q .key .size ≡ k .size = ap (λ (y : Key). y .size) (C .keyed q m) in
       rw (Parts.place-full s b q (fills t ps s b P q m clear c))
-      (ap out (whole t (q ∷ ps) (taken s q) (written b q) P′ c (omega (arith, f .big)) (omega (arith, f .small))))
+      (whole t (q ∷ ps) (taken s q) (written b q) P′ c (omega (arith, f .big)) (omega (arith, f .small)))
 
   pub offer-keeps : (t : ℕ) (ps : List Part) (s : Slot) (b : List ℕ) → Progress t ps s b → (q : Part) → In q (C .parts)
       → (Covers (k .size) (q ∷ ps) → ⊥)

@@ -381,7 +381,7 @@ module _ (gs : List Source) (m : List ℕ) (k : Key) (d : List ℕ) (C : Cutting
 -- ---- companions, over every run from a fresh table; a run up to any moment is a run (`ran-left`)
 
 made-small : (k : Key) (ps : List Part) (d : List ℕ) → MadeOf k ps d → length d ≤ 2047
-made-small k ps d M = omega (arith, ap length (M .made), length-finish (M .elided) (M .d₀), M .sized, M .bounded)
+made-small k ps d M = omega (arith, ap length (M .made), length-finish (M .sum) (M .d₀), M .sized, M .bounded)
 
 module _ (gs : List Source) (m : List ℕ) (W : Gateways gs) (h : 16384 ≤ length m) (hs : List Turn) where
   module _ (L : Went (begun gs m) hs) where

@@ -9,6 +9,7 @@ pub mod Frames
 pub mod Writes
 pub mod Unwritten
 pub mod Origins
+pub mod Right
 pub mod Library
 pub mod TwoParts
 pub mod Worked

@@ -1,16 +1,16 @@
 -- A reader answers by the bytes from its place on: with other bytes in front, and its place moved by as many, it gives the same value, or the
 -- same refusal, and ends as far behind its place.
-use Prim.Native.Nat.{ℕ, _+_, _*_, _/_, _%_, _^_, _≤_}
+use Prim.Native.Nat.{ℕ, zero, suc, _+_, _*_, _/_, _%_, _^_, _≤_}
 use native.Mathlib.Nat.{add-assoc}
 use native.Mathlib.Omega.{arith}
 use mathlib.Core.List.{List, _++_}
-use mathlib.Core.Bool.{Bool, true, false}
+use mathlib.Core.Bool.{Bool, true, false, _&&_}
 use mathlib.Core.Path.{_≡_, refl, ap, _∙_}
-use lib.Dec.{eqb, ltb}
-use lib.ListN.{length, getD, length-append}
+use lib.Dec.{eqb, ltb, leb}
+use lib.ListN.{length, getD, take, drop, length-append}
 use lib.Seq.{getD-append-add, drop-append-add}
-use borrow.Author.Tests.{lt-ltb, le-ltb, ltb-true, ltb-false}
-use Rattle.octets.specs.Read.{Answer, is, refused, Read, Reader, got, andThen, choose, branch, _>>=_, give, refuse, byte, be16, be32, be64}
+use borrow.Author.Tests.{lt-ltb, le-ltb, ltb-true, ltb-false, le-leb, lt-leb, leb-true, leb-false}
+use Rattle.octets.specs.Read.{Answer, is, refused, Read, Reader, got, andThen, choose, branch, _>>=_, give, refuse, byte, be16, be32, be64, skip}
 use Rattle.octets.specs.declared.field.ByteField.{ByteField}
 use Rattle.octets.specs.declared.field.WordField.{WordField}
 use Rattle.octets.specs.Ipv6.{ip}
@@ -21,10 +21,12 @@ use Rattle.iphc.specs.declared.read.Contexts.{Contexts}
 use Rattle.iphc.specs.declared.read.Traffic.{Traffic}
 use Rattle.iphc.specs.declared.header.Repr as Header
 use Rattle.iphc.specs.declared.label.LabelField.{LabelField}
-use Rattle.expand.specs.Headers.{transport, byNext, headers}
-use Rattle.expand.specs.Expand.{plain, bytesOf, sized, expansion}
-use Rattle.expand.specs.declared.headers.Headers.{Headers}
-use Rattle.expand.specs.declared.headers.UdpField.{UdpField}
+use Rattle.expand.specs.Full.{isAbsent}
+use Rattle.expand.specs.Chain.{Chain, rest, udpThen, extension, ipv6, Link, udpLink, extLink, innerLink, Around, fullNumber, badLength, octets, extData, extBody, innerByte, extKind, udpStep, linkOf, link, within, past, inside, remaining, behindNext, headerThen, udpEnd, onward, chain, chained}
+use Rattle.expand.specs.Expand.{sized, expansion}
+use Rattle.sixlowpan.specs.NhcExt.{idOf, extRest, ext}
+use Rattle.sixlowpan.specs.declared.nhc.ExtHeaderId.{ExtHeaderId}
+use Rattle.sixlowpan.specs.declared.nhc.ExtHeaderId.the-variants.{HopByHopHeader, RoutingHeader, FragmentHeader, DestinationOptionsHeader, MobilityHeader, Header, Reserved}
 use Rattle.sixlowpan.specs.declared.protocol.NextHeader.{NextHeader}
 use Rattle.sixlowpan.specs.declared.nhc.NhcPacket.{NhcPacket}
 use Rattle.sixlowpan.specs.declared.nhc.NhcPacket.the-variants.{ExtHeader, UdpHeader}
@@ -237,48 +239,107 @@ moves-iphc ctx ls ld =
     (λ v. moves-then (Iphc.front (Iphc.baseOf v)) (λ f. _>>=_ (Iphc.addresses ctx (Iphc.baseOf v) (f .contexts) ls ld) (λ a. give (Iphc.reprOf ls ld f a))) (moves-front (Iphc.baseOf v))
     (λ f. moves-map (Iphc.addresses ctx (Iphc.baseOf v) (f .contexts) ls ld) (Iphc.reprOf ls ld f) (moves-addresses ctx (Iphc.baseOf v) (f .contexts) ls ld)))
 
--- ---- all the headers, and what they stand for
-abbrev ahead : ℕ → Answer Headers → Answer Headers
-ahead n (is h) = is (record { ip = h .ip; udp = h .udp; rest = n + h .rest })
-ahead n (refused e) = refused e
+-- ---- a chain of headers (02, item 5)
+pub moves-skip : (n : ℕ) → Moves (skip n)
+unfolding skip
+moves-skip n p q k =
+    let e : leb (length p + k + n) (length (p ++ q)) ≡ leb (k + n) (length q) = ap (λ z. leb z (length (p ++ q))) (add-assoc (length p) k n) ∙ ap (leb (length p + (k + n))) (length-append p q) ∙ leb-go (length p) (k + n) (length q) (leb (k + n) (length q)) refl in
+    rw e (skip-go (length p) k n (leb (k + n) (length q)))
+  where
+    leb-go : (n k m : ℕ) (t : Bool) → leb k m ≡ t → leb (n + k) (n + m) ≡ t
+    leb-go n k m true e = le-leb (n + k) (n + m) (omega (arith, leb-true k m e))
+    leb-go n k m false e = lt-leb (n + k) (n + m) (omega (arith, leb-false k m e))
 
-udp-go : (n : ℕ) (h : Header.Repr) (r : Read _) → andThen (from n r) (λ x. is (record { ip = h; udp = UdpField.Some (x .value); rest = x .next })) ≡ ahead n (andThen r (λ x. is (record { ip = h; udp = UdpField.Some (x .value); rest = x .next })))
-udp-go n h (is x) = refl
-udp-go n h (refused e) = refl
+    skip-go : (n k m : ℕ) (t : Bool) → choose t (got {A = Unit {0}} tt (n + k + m)) (refused 1) ≡ from n (choose t (got tt (k + m)) (refused 1))
+    skip-go n k m true = ap (λ i. got {A = Unit {0}} tt i) (add-assoc n k m)
+    skip-go n k m false = refl
 
-moves-transport : (kind : NhcPacket) (h : Header.Repr) (p q : List ℕ) (k : ℕ) → transport kind h (p ++ q) (length p + k) ≡ ahead (length p) (transport kind h q k)
-unfolding transport
-moves-transport ExtHeader h p q k = refl
-moves-transport UdpHeader h p q k = rw (moves-udp p q k) (udp-go (length p) h (udp q k))
+moves-octets : (n : ℕ) → Moves (octets n)
+unfolding octets
+moves-octets n p q k = rw (moves-skip n p q k, drop-append-add p q k) (go (skip n q k))
+  where
+    go : (r : Read (Unit {0})) → andThen (from (length p) r) (λ x. got (take n (drop k q)) (x .next)) ≡ from (length p) (andThen r (λ x. got (take n (drop k q)) (x .next)))
+    go (is x) = refl
+    go (refused e) = refl
 
-kind-go : (h : Header.Repr) (p q : List ℕ) (k : ℕ) (r : Answer NhcPacket) → andThen r (λ c. transport c h (p ++ q) (length p + k)) ≡ ahead (length p) (andThen r (λ c. transport c h q k))
-kind-go h p q k (is c) = moves-transport c h p q k
-kind-go h p q k (refused e) = refl
+moves-ext : Moves ext
+unfolding ext extRest
+moves-ext =
+    moves-then byte (λ b. branch (eqb (b / 16) 0b1110) _ (refuse 2)) moves-byte
+    (λ b. moves-branch (eqb (b / 16) 0b1110) _ (refuse 2) (moves-both (nextHeader (b % 2)) byte (λ next n. record { «ext_header_id» = idOf (b / 2 % 8); «next_header» = next; length = n }) (moves-next (b % 2)) moves-byte) (moves-refuse 2))
 
-moves-by-next : (n : NextHeader) (h : Header.Repr) (p q : List ℕ) (k : ℕ) → byNext n h (p ++ q) (length p + k) ≡ ahead (length p) (byNext n h q k)
-unfolding byNext
-moves-by-next (Uncompressed x) h p q k = refl
-moves-by-next Compressed h p q k = rw (same-nhc p q k) (kind-go h p q k (nhc q k))
+moves-body : (id : ExtHeaderId) → Moves (extBody id)
+unfolding extBody extData
+moves-body id =
+    moves-then ext (λ h. branch (badLength id (h .length)) (refuse 3) (_>>=_ (octets (h .length)) (λ d. give (extLink (fullNumber id) d (h .«next_header»))))) moves-ext
+    (λ h. moves-branch (badLength id (h .length)) (refuse 3) _ (moves-refuse 3) (moves-map (octets (h .length)) (λ d. extLink (fullNumber id) d (h .«next_header»)) (moves-octets (h .length))))
 
-headers-go : (p q : List ℕ) (r : Read Header.Repr) → andThen (from (length p) r) (λ x. byNext (x .value .«next_header») (x .value) (p ++ q) (x .next)) ≡ ahead (length p) (andThen r (λ x. byNext (x .value .«next_header») (x .value) q (x .next)))
-headers-go p q (is x) = moves-by-next (x .value .«next_header») (x .value) p q (x .next)
-headers-go p q (refused e) = refl
+moves-inner : Moves innerByte
+unfolding innerByte
+moves-inner = moves-then byte (λ b. branch (eqb (b % 2) 0) (give innerLink) (refuse 3)) moves-byte (λ b. moves-branch (eqb (b % 2) 0) (give innerLink) (refuse 3) (moves-give innerLink) (moves-refuse 3))
 
-moves-headers : (ctx : List ℕ) (ls ld : AddressField) (p q : List ℕ) (k : ℕ) → headers ctx ls ld (p ++ q) (length p + k) ≡ ahead (length p) (headers ctx ls ld q k)
-unfolding headers
-moves-headers ctx ls ld p q k = rw (moves-iphc ctx ls ld p q k) (headers-go p q (Iphc.iphc ctx ls ld q k))
+moves-kind : (id : ExtHeaderId) → Moves (extKind id)
+moves-kind HopByHopHeader = moves-body HopByHopHeader
+moves-kind RoutingHeader = moves-body RoutingHeader
+moves-kind FragmentHeader = moves-refuse 13
+moves-kind DestinationOptionsHeader = moves-body DestinationOptionsHeader
+moves-kind MobilityHeader = moves-body MobilityHeader
+moves-kind Header = moves-inner
+moves-kind Reserved = moves-refuse 13
 
-same-sized : (size : WordField) (h : Headers) (p q : List ℕ) → sized size (record { ip = h .ip; udp = h .udp; rest = length p + h .rest }) (p ++ q) ≡ sized size h q
-unfolding sized bytesOf plain
-same-sized size h p q = rw (drop-append-add p q (h .rest)) refl
+moves-link-of : (k : NhcPacket) (left : ℕ) → Moves (linkOf k left)
+unfolding linkOf udpStep
+moves-link-of UdpHeader left p q k = moves-map udp udpLink moves-udp p q k
+moves-link-of ExtHeader left p q k = rw (getD-append-add p q k 0) (go (eqb left 0))
+  where
+    go : (t : Bool) → choose t (refused 3) (extKind (idOf (getD q k 0 / 2 % 8)) (p ++ q) (length p + k)) ≡ from (length p) (choose t (refused 3) (extKind (idOf (getD q k 0 / 2 % 8)) q k))
+    go true = refl
+    go false = moves-kind (idOf (getD q k 0 / 2 % 8)) p q k
 
-sized-go : (size : WordField) (p q : List ℕ) (r : Answer Headers) → andThen (ahead (length p) r) (λ h. sized size h (p ++ q)) ≡ andThen r (λ h. sized size h q)
-sized-go size p q (is h) = same-sized size h p q
-sized-go size p q (refused e) = refl
+moves-link : (left : ℕ) → Moves (link left)
+unfolding link
+moves-link left p q k = rw (same-nhc p q k) (go (nhc q k))
+  where
+    go : (r : Answer NhcPacket) → andThen r (λ c. linkOf c left (p ++ q) (length p + k)) ≡ from (length p) (andThen r (λ c. linkOf c left q k))
+    go (is c) = moves-link-of c left p q k
+    go (refused e) = refl
+
+moves-remaining : Moves remaining
+moves-remaining p q k = ap (λ z. got z (length p + k)) (drop-append-add p q k)
+
+moves-behind : (n : NextHeader) (m : Reader Chain) → Moves m → Moves (behindNext n m)
+unfolding behindNext
+moves-behind (Uncompressed x) m v = moves-map remaining (λ d. rest (x .0) d) moves-remaining
+moves-behind Compressed m v = v
+
+moves-header : (ctx : List ℕ) (ls ld : AddressField) (m : Around → Reader Chain) → ((w : Around) → Moves (m w)) → Moves (headerThen ctx ls ld m)
+unfolding headerThen
+moves-header ctx ls ld m v =
+    moves-then (Iphc.iphc ctx ls ld) (λ h. _>>=_ (behindNext (h .«next_header») (m (within h))) (λ c. give (ipv6 h c))) (moves-iphc ctx ls ld)
+    (λ h. moves-map (behindNext (h .«next_header») (m (within h))) (λ c. ipv6 h c) (moves-behind (h .«next_header») (m (within h)) (v (within h))))
+
+moves-onward : (ctx : List ℕ) (m : Around → Reader Chain) (w : Around) (l : Link) → ((v : Around) → Moves (m v)) → Moves (onward ctx m w l)
+unfolding onward udpEnd
+moves-onward ctx m w (udpLink h) v = moves-branch (w .routed && isAbsent (h .checksum)) (refuse 13) _ (moves-refuse 13) (moves-map remaining (λ d. udpThen h d) moves-remaining)
+moves-onward ctx m w (extLink x d next) v = moves-map (behindNext next (m (past x w))) (λ c. extension x d c) (moves-behind next (m (past x w)) (v (past x w)))
+moves-onward ctx m w innerLink v = moves-header ctx (inside (w .src)) (inside (w .dst)) m v
+
+moves-chain : (left : ℕ) (ctx : List ℕ) (w : Around) → Moves (chain left ctx w)
+unfolding chain
+moves-chain zero ctx w = moves-then (link 0) (λ l. onward ctx (λ v. refuse 3) w l) (moves-link 0) (λ l. moves-onward ctx (λ v. refuse 3) w l (λ v. moves-refuse 3))
+moves-chain (suc left) ctx w = moves-then (link (suc left)) (λ l. onward ctx (chain left ctx) w l) (moves-link (suc left)) (λ l. moves-onward ctx (chain left ctx) w l (λ v. moves-chain left ctx v))
+
+moves-chained : (ctx : List ℕ) (ls ld : AddressField) → Moves (chained ctx ls ld)
+unfolding chained
+moves-chained ctx ls ld = moves-header ctx ls ld (chain 7 ctx) (λ w. moves-chain 7 ctx w)
+
+sized-go : (size : WordField) (n : ℕ) (r : Read Chain) → andThen (from n r) (λ x. sized size (x .value)) ≡ andThen r (λ x. sized size (x .value))
+sized-go size n (is x) = refl
+sized-go size n (refused e) = refl
 
 -- a frame that is not too long
 pub same-expansion : (ctx : List ℕ) (ls ld : AddressField) (size : WordField) (p q : List ℕ) (k : ℕ) → length (p ++ q) ≤ 127 → expansion ctx ls ld size (p ++ q) (length p + k) ≡ expansion ctx ls ld size q k
 unfolding expansion
 same-expansion ctx ls ld size p q k l =
     let m : length q ≤ 127 = omega (arith, length-append p q) in
-    rw (le-ltb 127 (length (p ++ q)) l, le-ltb 127 (length q) m, moves-headers ctx ls ld p q k) (sized-go size p q (headers ctx ls ld q k))
+    rw (le-ltb 127 (length (p ++ q)) l, le-ltb 127 (length q) m, moves-chained ctx ls ld p q k) (sized-go size (length p) (chained ctx ls ld q k))

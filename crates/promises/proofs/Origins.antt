@@ -8,6 +8,7 @@ use mathlib.Core.List.{List, [], _∷_, _++_, map}
 use lib.ListN.{length, getD}
 use lib.Dec.{eqb}
 use Rattle.octets.specs.Read.{is, choose}
+use Rattle.expand.specs.Sum.{wasElided}
 use Rattle.reassembly.specs.Slots.{sameKey}
 use Rattle.reassembly.specs.Parts.{Part}
 use Rattle.reassembly.specs.Table.{Call, short, other, part, State, Result, step, next, note, takenSince}
@@ -71,7 +72,7 @@ module _ (gs : List Source) (m : List ℕ) where
 
   pub each-sent : Gateways gs → 16384 ≤ length m → (hs : List Turn) (h : Turn) → Ran (begun gs m) (hs ++ (h ∷ [])) → (p : Part) → Brings gs m h p
       → (n : ℕ) → h .received .answer ≡ Outcome.Out n
-      → (H : HandedOut gs m (p .key) hs h n) × ((x : ℕ) → x < p .key .size → (H .made .elided ≡ true → (x < 46) ⊎ (48 ≤ x)) → Sent (p .key) (hs ++ (h ∷ [])) (H .datagram) x)
+      → (H : HandedOut gs m (p .key) hs h n) × ((x : ℕ) → x < p .key .size → (wasElided (H .made .sum) ≡ true → (x < H .made .sum .udp + 6) ⊎ (H .made .sum .udp + 8 ≤ x)) → Sent (p .key) (hs ++ (h ∷ [])) (H .datagram) x)
   unfolding takenOf
   each-sent W room hs h R p b n a =
       let H = never-meet gs m W room hs h R p b n a in (

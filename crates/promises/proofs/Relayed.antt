@@ -12,6 +12,7 @@ use Rattle.octets.specs.Read.{Answer, is, refused, Read, got, andThen, choose}
 use Rattle.octets.specs.declared.field.WordField.{WordField}
 use Rattle.ieee802154.specs.declared.addr.AddressField.{AddressField}
 use Rattle.expand.specs.Expand.{expansion}
+use Rattle.expand.specs.Sum.{noSum, carriedAt}
 use Rattle.relay.specs.Headers.{isEither, relay, hasAddresses, relayBytes}
 use Rattle.relay.specs.declared.headers.Relay.{Relay}
 use Rattle.relay.specs.declared.mesh.Mesh.{Mesh}
@@ -63,8 +64,8 @@ module _ (p p′ q : List ℕ) (l : length (p ++ q) ≤ 127) (l′ : length (p�
 
   same-piece : (h : Frag.Repr) (k : ℕ) → piece ctx a h (length p + k) (p ++ q) ≡ piece ctx b h (length p′ + k) (p′ ++ q)
   unfolding piece
-  same-piece (FirstFragment size tag) k = ap (λ r. andThen r (λ e. is (part size tag 0 (e .bytes) (e .elided)))) (expands (WordField.Some size) k)
-  same-piece (Fragment size tag o) k = ap (λ d. choose (eqb (o .0) 0) (refused 10) (is (part size tag (o .0) d false))) (drop-append-add p q k ∙ sym (drop-append-add p′ q k))
+  same-piece (FirstFragment size tag) k = ap (λ r. andThen r (λ e. is (part size tag 0 (e .bytes) (e .sum)))) (expands (WordField.Some size) k)
+  same-piece (Fragment size tag o) k = ap (λ d. choose (eqb (o .0) 0) (refused 10) (is (part size tag (o .0) d noSum))) (drop-append-add p q k ∙ sym (drop-append-add p′ q k))
 
   fragment-go : (r : Read Frag.Repr) → andThen (from (length p) r) (λ x. piece ctx a (x .value) (x .next) (p ++ q)) ≡ andThen (from (length p′) r) (λ x. piece ctx b (x .value) (x .next) (p′ ++ q))
   fragment-go (is x) = same-piece (x .value) (x .next)
@@ -81,7 +82,7 @@ module _ (p p′ q : List ℕ) (l : length (p ++ q) ≤ 127) (l′ : length (p�
     same-whole : whole ctx a (p ++ q) ≡ whole ctx b (p′ ++ q)
     unfolding whole
     same-whole =
-        ap (λ r. andThen r (λ e. is (datagram (e .bytes))))
+        ap (λ r. andThen r (λ e. is (datagram (e .bytes) (e .sum))))
         (ap (λ n. expansion ctx (AddressField.Some (a .src)) (AddressField.Some (a .dst)) WordField.None (p ++ q) n) i
         ∙ expands WordField.None 0
         ∙ sym (ap (λ n. expansion ctx (AddressField.Some (b .src)) (AddressField.Some (b .dst)) WordField.None (p′ ++ q) n) j))
@@ -109,7 +110,7 @@ key-alike a b A size tag =
     ∙ ap (λ z. record { src = senderOf b; dst = nodeOf z; size = size; tag = tag }) (A .receiver)
 
 brings-alike : (t : ℕ) (a b : Arrival) → Alike a b → (r : Answer Brought) → brings t a r ≡ brings t b r
-brings-alike t a b A (is (datagram d)) = refl
+brings-alike t a b A (is (datagram d m)) = refl
 brings-alike t a b A (is (part size tag u bs e)) = ap (λ z. Table.part t (partOf z u e bs)) (key-alike a b A size tag)
 brings-alike t a b A (refused n) = refl
 
@@ -174,7 +175,7 @@ frames-read : (framed relayed-frame ≡ is (arrives 0x77)) × (framed (Worked.fr
 unfolding framed byte be16 le16 supported saysElements hasSequence omitsSequence hasAddressing carried01 carried panField addressField side sides addressing auxiliary Mac.sequenceOf Mac.reprOf Mac.headerRest Mac.afterControl Mac.header Mac.mac hopsBytes byteBytes be16Bytes
 frames-read = (refl, refl, refl)
 
-pub relayed-brings : (t : ℕ) (w : Other) → frameCall (gateways w) [] t relayed-frame ≡ Table.part t (high old-key last-month 7 false)
+pub relayed-brings : (t : ℕ) (w : Other) → frameCall (gateways w) [] t relayed-frame ≡ Table.part t (high old-key last-month 7 (carriedAt 0 40))
 relayed-brings t w =
     let c : Worked.from 0x77 0xcd 0xab 0x01 (relayBytes by-relay ++ later-bytes) ≡ relayed-frame = ap (λ z. Worked.from 0x77 0xcd 0xab 0x01 (z ++ later-bytes)) (frames-read .2) in
     sym (ap (λ z. frameCall (gateways w) [] t z) c)

@@ -22,7 +22,7 @@ use Rattle.cutting.proofs.Cuttings.{cut-ready}
 use Rattle.lift.specs.Face.{packed, Answers, received}
 use Rattle.promises.specs.Frames.{Turn, Forward, callIn, left, endOf}
 use Rattle.promises.specs.Library.{LiftTurn, asTurn, RanIn, ConcludedIn}
-use Rattle.promises.specs.Sent.{sender, keyFor, SentSupposed, fedTurn, fed}
+use Rattle.promises.specs.Sent.{sender, keyFor, SumRight, SentSupposed, fedTurn, fed}
 use Rattle.promises.proofs.Engine.{In-left, In-right}
 use Rattle.promises.proofs.Frames.{out-front}
 use Rattle.promises.proofs.Library.{lift-demand-3}
@@ -36,16 +36,16 @@ module _ (gs : List Source) (m : List ℕ) (l : Link) (d : List ℕ) (fs : List 
   pub lift-sent-handed-out : (past mid : List LiftTurn) (c : LiftTurn) → SentSupposed gs m l d fs (map asTurn past) (map asTurn mid) (asTurn c)
       → RanIn (begun gs m) (past ++ (mid ++ (c ∷ []))) → held (owner (keyFor l d)) (endOf (begun gs m) (map asTurn past) .table .slots) ≡ 0 → ConcludedIn (keyFor l d) d mid c
   lift-sent-handed-out past mid c H R z =
-      lift-demand-3 gs m (keyFor l d) d (parts-cut l d (cuts l d fs b e .ready)) past mid c
+      lift-demand-3 gs m (keyFor l d) d (parts-cut l d (cuts l d fs b e .ready) (H .right)) past mid c
       (sent-supposed gs m l d fs b e more (map asTurn past) (map asTurn mid) (asTurn c) H) R z
 
 -- ---- a datagram in one frame, whatever the table σ holds
-module _ (σ : State) (l : Link) (d : List ℕ) (fs : List (List ℕ)) (b : Bytes d) (e : cut l d ≡ is fs) (one : macLength l + (headLength l d + (length d - covers d)) ≤ l .limit) (lists : isGate (sender l) (gatesOf (σ .table)) ≡ true) (enough : 16384 ≤ length (σ .mem)) (h : LiftTurn) (sent : In (h .frame) fs) (time : σ .table .last ≤ h .time) (room : 2047 ≤ length (h .before)) where
+module _ (σ : State) (l : Link) (d : List ℕ) (fs : List (List ℕ)) (b : Bytes d) (e : cut l d ≡ is fs) (one : macLength l + (headLength l d + (length d - covers d)) ≤ l .limit) (lists : isGate (sender l) (gatesOf (σ .table)) ≡ true) (enough : 16384 ≤ length (σ .mem)) (right : SumRight d) (h : LiftTurn) (sent : In (h .frame) fs) (time : σ .table .last ≤ h .time) (room : 2047 ≤ length (h .before)) where
   pub lift-whole-handed-out : Answers (h .answer) (h .table) (h .memory) (h .before) (h .output) (received (σ .table) (h .time) (h .frame) (h .contexts) (σ .mem) (h .before))
       → (h .answer ≡ 65536 + length d) × (h .output ≡ d ++ drop (length d) (h .before))
   unfolding received callIn
   lift-whole-handed-out A =
-      let r : (step σ (callIn σ (asTurn h))) .reply ≡ out d = whole-reply σ l d fs b e one lists enough (asTurn h) sent time room in (
+      let r : (step σ (callIn σ (asTurn h))) .reply ≡ out d = whole-reply σ l d fs b e one lists enough right (asTurn h) sent time room in (
         A .answer ∙ ap (λ (x : Reply (List ℕ)). packed (told x)) r,
         out-front d (h .before) (h .output) _ (A .output) r (omega (arith, cut-ready l d fs e .1)),
       )
@@ -105,7 +105,7 @@ in-split a (x ∷ xs) ys (inr i) = go (in-split a xs ys i)
 
 -- the frames ys, of which x is none, then x: all of the cutting, in any order, some of them more than once
 module _ (gs : List Source) (m : List ℕ) (l : Link) (d : List ℕ) (fs : List (List ℕ)) (b : Bytes d) (e : cut l d ≡ is fs) (more : l .limit < macLength l + (headLength l d + (length d - covers d)))
-    (W : Gateways gs) (lists : isGate (sender l) gs ≡ true) (enough : 16384 ≤ length m)
+    (W : Gateways gs) (lists : isGate (sender l) gs ≡ true) (enough : 16384 ≤ length m) (right : SumRight d)
     (ys : List (List ℕ)) (x : List ℕ) (only : (y : List ℕ) → In y ys → In y fs) (last : In x fs) (new : In x ys → ⊥) (each : (f : List ℕ) → In f fs → In f ys ⊎ (f ≡ x)) where
   abbrev σ₀ : State
   σ₀ = begun gs m
@@ -151,6 +151,7 @@ module _ (gs : List Source) (m : List ℕ) (l : Link) (d : List ℕ) (fs : List 
     gateways = W;
     lists = lists;
     enough = enough;
+    right = right;
     forward = still all (λ h i. of-all h i .time);
     first = first;
     then = head (map asTurn mid) (asTurn end) .1;
@@ -196,10 +197,10 @@ in-reverse a xs i = go (turned a xs [] i)
     go (inr j) = absurd j
 
 module _ (gs : List Source) (m : List ℕ) (l : Link) (d f : List ℕ) (rest : List (List ℕ)) (b : Bytes d) (e : cut l d ≡ is (f ∷ rest)) (more : l .limit < macLength l + (headLength l d + (length d - covers d)))
-    (W : Gateways gs) (lists : isGate (sender l) gs ≡ true) (enough : 16384 ≤ length m) where
+    (W : Gateways gs) (lists : isGate (sender l) gs ≡ true) (enough : 16384 ≤ length m) (right : SumRight d) where
   pub fed-backwards : ConcludedIn (keyFor l d) d (fed (begun gs m) (reverse rest)) (fedTurn (endOf (begun gs m) (map asTurn (fed (begun gs m) (reverse rest)))) f)
   fed-backwards =
-      fed-whole gs m l d (f ∷ rest) b e more W lists enough (reverse rest) f
+      fed-whole gs m l d (f ∷ rest) b e more W lists enough right (reverse rest) f
       (λ y i. inr (in-reverse y rest i))
       (inl refl)
       (λ i. frames-apart l d (f ∷ rest) b e .0 (in-reverse f rest i))

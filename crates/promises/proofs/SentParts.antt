@@ -11,9 +11,12 @@ use lib.Dec.{eqb, leb}
 use lib.ListN.{length, getD, take, drop, length-take, length-drop}
 use lib.Seq.{getD-take, getD-drop, take-all}
 use borrow.Author.Tests.{le-leb, eq-eqb}
+use Rattle.octets.specs.Read.{choose}
 use Rattle.reassembly.specs.Cover.{In, Has, Covers}
 use Rattle.reassembly.specs.Parts.{Part, partOf, fitsIn, fits, finish}
-use Rattle.cutting.specs.Head.{covers}
+use Rattle.expand.specs.Sum.{noSum, carriedAt, wasElided, summedBy}
+use Rattle.cutting.specs.Fields.{isUdp}
+use Rattle.cutting.specs.Head.{covers, sumSent}
 use Rattle.cutting.specs.Pieces.{pieces}
 use Rattle.cutting.specs.Cut.{planOf}
 use Rattle.cutting.specs.declared.link.Link.{Link}
@@ -22,7 +25,7 @@ use Rattle.cutting.specs.declared.piece.Piece.the-variants.{Whole, First, Later
 use Rattle.cutting.proofs.WriteLaws.{Ready}
 use Rattle.cutting.proofs.Tiling.{Each, Good, FirstPart, pieces-each, covers-least, startOf, endOf, Chain, pieces-chain}
 use Rattle.promises.specs.Cuttings.{zeroed, Cutting}
-use Rattle.promises.specs.Sent.{keyFor, partFor}
+use Rattle.promises.specs.Sent.{keyFor, partFor, SumRight}
 
 -- ---- lists
 pub each-in : {A : Type 0} (P : A → Type 0) (xs : List A) (x : A) → Each P xs → In x xs → P x
@@ -74,7 +77,7 @@ module _ (d : List ℕ) where
 -- ---- a piece as a part
 pub record Stands (l : Link) (d : List ℕ) (x : Piece) : Type 0 where
   pub key : partFor l d x .key ≡ keyFor l d
-  pub carried : partFor l d x .elided ≡ false
+  pub carried : partFor l d x .unit ≡ 0 → partFor l d x .sum ≡ sumSent d
   pub begins : partFor l d x .unit * 8 ≡ startOf x
   pub ends : startOf x + length (partFor l d x .bytes) ≡ endOf d x
   pub some : startOf x < endOf d x
@@ -86,7 +89,7 @@ module _ (l : Link) (d : List ℕ) (h : Ready l d) where
   whole-stands : Stands l d Whole
   whole-stands = record {
     key = refl;
-    carried = refl;
+    carried = λ z. refl;
     begins = refl;
     ends = omega arith;
     some = omega (arith, h .0);
@@ -101,7 +104,7 @@ module _ (l : Link) (d : List ℕ) (h : Ready l d) where
       let a : length (take (covers d + n) d) % 8 ≡ 0 = rw e (f .aligned) in
       record {
         key = refl;
-        carried = refl;
+        carried = λ z. refl;
         begins = refl;
         ends = omega arith;
         some = omega (arith, covers-least d);
@@ -110,12 +113,12 @@ module _ (l : Link) (d : List ℕ) (h : Ready l d) where
         bytes = ap (λ k. take k d) (sym e);
       }
 
-  later-stands : (room least at n : ℕ) → Good room (length d) least at n → Stands l d (Later at n)
-  later-stands room least at n g =
+  later-stands : (room least at n : ℕ) → 1 ≤ least → Good room (length d) least at n → Stands l d (Later at n)
+  later-stands room least at n k g =
       let e : length (take n (drop at d)) ≡ n = omega (arith, length-take n (drop at d), length-drop at d, g .ends) in
       record {
         key = refl;
-        carried = refl;
+        carried = λ z. absurd (omega (arith, z, k, g .begins, g .aligned));
         begins = omega (arith, g .aligned);
         ends = omega arith;
         some = omega (arith, g .some);
@@ -129,7 +132,7 @@ module _ (l : Link) (d : List ℕ) (h : Ready l d) where
       ends-go (inr q) e = inr q
 
   pub all-stand : Each (Stands l d) (pieces (planOf l d))
-  all-stand = pieces-each l d h (Stands l d) (λ q. whole-stands) first-stands (λ least at n b g. later-stands _ least at n g)
+  all-stand = pieces-each l d h (Stands l d) (λ q. whole-stands) first-stands (λ least at n b g. later-stands _ least at n b g)
 
   pub stands : (x : Piece) → In x (pieces (planOf l d)) → Stands l d x
   stands x i = each-in (Stands l d) (pieces (planOf l d)) x all-stand i
@@ -169,11 +172,26 @@ module _ (l : Link) (d : List ℕ) (h : Ready l d) where
       ap (λ z. getD z j 0) (s .bytes) ∙ getD-take n (drop (startOf x) d) j 0 k ∙ getD-drop (startOf x) d j 0 ∙ ap (λ z. getD d z 0) m
 
   -- ---- the cutting
-  unfoldable pub parts-cut : Cutting (keyFor l d) d
-  unfolding zeroed finish
-  parts-cut = record {
+  not-elided : (t : Bool) → wasElided (choose t (carriedAt 0 40) noSum) ≡ false
+  not-elided true = refl
+  not-elided false = refl
+
+  sent-not : wasElided (sumSent d) ≡ false
+  unfolding sumSent
+  sent-not = not-elided (isUdp d)
+
+  pub zeroed-not : zeroed (sumSent d) d ≡ d
+  unfolding zeroed
+  zeroed-not = rw sent-not refl
+
+  pub summed-not : summedBy (sumSent d) d ≡ d
+  unfolding summedBy
+  summed-not = rw sent-not refl
+
+  unfoldable pub parts-cut : SumRight d → Cutting (keyFor l d) d
+  parts-cut right = record {
     parts = map (partFor l d) (pieces (planOf l d));
-    elided = false;
+    sum = sumSent d;
     sized = refl;
     keyed = λ p i. let (x, j, e) = in-map (partFor l d) (pieces (planOf l d)) p i in ap (λ z. z .key) e ∙ stands x j .key;
     pass10 = λ p i. let (x, j, e) = in-map (partFor l d) (pieces (planOf l d)) p i in ap fits e ∙ fits-is x (stands x j);
@@ -192,7 +210,8 @@ module _ (l : Link) (d : List ℕ) (h : Ready l d) where
         (partFor l d x, map-in (partFor l d) (pieces (planOf l d)) x i, (omega (arith, s .begins), omega (arith, s .begins, s .ends)));
     bytes = λ p i y a.
         let (x, j, e) = in-map (partFor l d) (pieces (planOf l d)) p i in
-        ap (λ z. getD (z .bytes) (y - z .unit * 8) 0) e ∙ bytes-at x (stands x j) y (subst (λ z. Has z y) e a);
-    flag = λ p i u. let (x, j, e) = in-map (partFor l d) (pieces (planOf l d)) p i in ap (λ z. z .elided) e ∙ stands x j .carried;
-    summed = refl;
+        ap (λ z. getD (z .bytes) (y - z .unit * 8) 0) e ∙ bytes-at x (stands x j) y (subst (λ z. Has z y) e a) ∙ ap (λ z. getD z y 0) (sym zeroed-not);
+    flag = λ p i u. let (x, j, e) = in-map (partFor l d) (pieces (planOf l d)) p i in ap (λ z. z .sum) e ∙ stands x j .carried (ap (λ z. z .unit) (sym e) ∙ u);
+    summed = rw zeroed-not summed-not;
+    right = rw zeroed-not right;
   }

@@ -22,7 +22,7 @@ use Rattle.reassembly.specs.declared.part.Outcome.{Outcome}
 use Rattle.reassembly.proofs.Promises.{outcome-one}
 use Rattle.reassembly.proofs.Runs.{comes-brought, comes-part}
 use Rattle.receiver.specs.Names.{named}
-use Rattle.receiver.specs.Receive.{frameCall, callOf}
+use Rattle.receiver.specs.Receive.{tested, frameCall, callOf}
 use Rattle.receiver.proofs.Names.{frame-part, call-part}
 use Rattle.cutting.specs.Head.{macLength, headLength, covers}
 use Rattle.cutting.specs.Pieces.{wholeLength, pieces}
@@ -35,7 +35,7 @@ use Rattle.cutting.proofs.Tiling.{Each, pieces-each, startOf, endOf, pieces-cha
 use Rattle.promises.specs.Runs.{came}
 use Rattle.promises.specs.Frames.{Turn, callIn, Ran, endOf as endsAt, meant, Brings, partsOf, Supposed, Concluded}
 use Rattle.promises.specs.Cuttings.{Cutting}
-use Rattle.promises.specs.Sent.{sender, keyFor, partFor, callFor, SentSupposed}
+use Rattle.promises.specs.Sent.{sender, keyFor, partFor, callFor, SumRight, SentSupposed}
 use Rattle.promises.proofs.Engine.{In-left, In-right}
 use Rattle.promises.proofs.Frames.{part-one, came-in, out-front, demand-3}
 use Rattle.promises.proofs.Sent.{Cuts, frames-bring}
@@ -97,7 +97,7 @@ module _ (gs : List Source) (m : List ℕ) (l : Link) (d : List ℕ) (fs : List 
   covered : Covers (length d) (partsOf gs m (keyFor l d) (mid ++ (c ∷ [])))
   unfolding partsOf parts-cut
   covered y k =
-      let (p, i, has) = parts-cut l d (K .ready) .fill y k in
+      let (p, i, has) = parts-cut l d (K .ready) (H .right) .fill y k in
       let (x, j, q) = in-map (partFor l d) ps p i in
       let (h, n, f) = H .each (frameOf l d x) (subst (In (frameOf l d x)) (sym frames-are) (map-in (frameOf l d) ps x j)) in
       let s = stand x j in
@@ -123,7 +123,7 @@ module _ (gs : List Source) (m : List ℕ) (l : Link) (d : List ℕ) (fs : List 
       H .new h n (f ∙ ap (frameOf l d) g ∙ sym q)
 
   -- what demand 3 supposes
-  pub sent-supposed : Supposed gs m (keyFor l d) d (parts-cut l d (K .ready)) past mid c
+  pub sent-supposed : Supposed gs m (keyFor l d) d (parts-cut l d (K .ready) (H .right)) past mid c
   unfolding parts-cut
   sent-supposed = record {
     gateways = H .gateways;
@@ -143,7 +143,7 @@ module _ (gs : List Source) (m : List ℕ) (l : Link) (d : List ℕ) (fs : List 
 
   -- the same datagram is handed out, by the call with the last frame and none before it
   pub sent-handed-out : Ran (begun gs m) (past ++ (mid ++ (c ∷ []))) → held (owner (keyFor l d)) (endsAt (begun gs m) past .table .slots) ≡ 0 → Concluded (keyFor l d) d mid c
-  sent-handed-out R z = demand-3 gs m (keyFor l d) d (parts-cut l d (K .ready)) past mid c sent-supposed R z
+  sent-handed-out R z = demand-3 gs m (keyFor l d) d (parts-cut l d (K .ready) (H .right)) past mid c sent-supposed R z
 
 -- ---- a datagram in one frame
 one-piece : (l : Link) (d : List ℕ) → macLength l + (headLength l d + (length d - covers d)) ≤ l .limit → pieces (planOf l d) ≡ Whole ∷ []
@@ -151,7 +151,7 @@ unfolding pieces wholeLength planOf
 one-piece l d h = rw (le-leb (macLength l + (headLength l d + (length d - covers d))) (l .limit) h) refl
 
 -- whatever the table σ holds: it lists the source address, its time is not past, and memory and output are long enough
-module _ (σ : State) (l : Link) (d : List ℕ) (fs : List (List ℕ)) (b : Bytes d) (e : cut l d ≡ is fs) (one : macLength l + (headLength l d + (length d - covers d)) ≤ l .limit) (lists : isGate (sender l) (gatesOf (σ .table)) ≡ true) (enough : 16384 ≤ length (σ .mem)) (h : Turn) (sent : In (h .frame) fs) (time : σ .table .last ≤ h .time) (room : 2047 ≤ length (h .before)) where
+module _ (σ : State) (l : Link) (d : List ℕ) (fs : List (List ℕ)) (b : Bytes d) (e : cut l d ≡ is fs) (one : macLength l + (headLength l d + (length d - covers d)) ≤ l .limit) (lists : isGate (sender l) (gatesOf (σ .table)) ≡ true) (enough : 16384 ≤ length (σ .mem)) (right : SumRight d) (h : Turn) (sent : In (h .frame) fs) (time : σ .table .last ≤ h .time) (room : 2047 ≤ length (h .before)) where
   whole-frame : h .frame ≡ frameOf l d Whole
   whole-frame = go (in-map (frameOf l d) (Whole ∷ []) (h .frame) (rw (cut-was l d fs e .frames, one-piece l d one) at sent))
     where
@@ -160,10 +160,12 @@ module _ (σ : State) (l : Link) (d : List ℕ) (fs : List (List ℕ)) (b : Byte
       go (x, inr i, f) = absurd i
 
   whole-call : frameCall (gatesOf (σ .table)) (h .contexts) (h .time) (h .frame) ≡ other (h .time) (out d)
+  unfolding tested
   whole-call =
       let E = frames-bring l d (cuts l d fs b e) (gatesOf (σ .table)) lists (h .contexts) (h .time) in
       ap (frameCall (gatesOf (σ .table)) (h .contexts) (h .time)) whole-frame
       ∙ each-in (λ z. frameCall (gatesOf (σ .table)) (h .contexts) (h .time) (frameOf l d z) ≡ callFor l d (h .time) z) (pieces (planOf l d)) Whole E (rw (one-piece l d one) (inl refl))
+      ∙ rw right refl
 
   pub whole-reply : (step σ (callIn σ h)) .reply ≡ out d
   unfolding callIn callOf lentCall step pass

@@ -8,19 +8,21 @@ use lib.Dec.{ltb}
 use lib.ListN.{length, replicate}
 use borrow.Author.Tests.{ltb-true}
 use Rattle.octets.specs.Read.{is, byte, be16, be32, be64}
+use Rattle.octets.specs.Write.{be16Bytes, be32Bytes}
 use Rattle.octets.proofs.Steps.{and-true}
 use Rattle.ieee802154.specs.Mac.{suppresses, lengthOf as macLengthOf}
 use Rattle.ieee802154.specs.declared.addr.Address.the-variants.{Short}
 use Rattle.ieee802154.specs.declared.addr.PanField.{PanField}
 use Rattle.sixlowpan.specs.NhcUdp.{formOf}
 use Rattle.iphc.specs.Emit.{iidForm, srcForm, dstForm, multicastForm, lengthOf}
+use Rattle.expand.specs.Sum.{words, onesSum, pseudo, covered, udpChecksum, seen, checksumAt, holds}
 use Rattle.expand.proofs.SumLaws.{Bytes, bytes-nil, bytes-cons}
 use Rattle.reassembly.specs.Fresh.{Gateways, begun}
 use Rattle.reassembly.specs.Lists.{bit, count, those}
 use Rattle.reassembly.specs.Slots.{sourceOf, sameNode, sameSource, addressed, present, isGate}
 use Rattle.reassembly.specs.declared.slot.Source.{Source}
 use Rattle.cutting.specs.Fields.{isOurs, isUdp}
-use Rattle.cutting.specs.Head.{macLength, headLength, covers, nextOf, ipOf, udpOf, udpPartLength}
+use Rattle.cutting.specs.Head.{macLength, headLength, covers, nextOf, ipOf, udpOf, udpPartLength, sumSent}
 use Rattle.cutting.specs.Pieces.{pieceFrom, laterPieces, wholeLength, firstPart, laterRoom, pieces}
 use Rattle.cutting.specs.Cut.{planOf, frameOf, inRange, hasBoth, cut}
 use Rattle.cutting.specs.declared.link.Link.{Link}
@@ -29,7 +31,7 @@ use Rattle.cutting.specs.declared.piece.Piece.{Piece}
 use Rattle.cutting.specs.declared.piece.Piece.the-variants.{First, Later}
 use Rattle.promises.specs.Frames.{endOf}
 use Rattle.promises.specs.Library.{LiftTurn, asTurn, ConcludedIn}
-use Rattle.promises.specs.Sent.{keyFor, fedTurn, fed}
+use Rattle.promises.specs.Sent.{keyFor, fedTurn, fed, SumRight}
 use Rattle.promises.proofs.SentLibrary.{fed-backwards}
 
 -- from fe80::ff:fe00:1 to fe80::ff:fe00:2, hop limit 64, UDP from port f0b1 to f0b2, and 1,232 bytes more
@@ -38,7 +40,7 @@ block =
     0x60 ∷ 0 ∷ 0 ∷ 0 ∷ 0x04 ∷ 0xd8 ∷ 17 ∷ 64
     ∷ 0xfe ∷ 0x80 ∷ 0 ∷ 0 ∷ 0 ∷ 0 ∷ 0 ∷ 0 ∷ 0 ∷ 0 ∷ 0 ∷ 0xff ∷ 0xfe ∷ 0 ∷ 0 ∷ 1
     ∷ 0xfe ∷ 0x80 ∷ 0 ∷ 0 ∷ 0 ∷ 0 ∷ 0 ∷ 0 ∷ 0 ∷ 0 ∷ 0 ∷ 0xff ∷ 0xfe ∷ 0 ∷ 0 ∷ 2
-    ∷ 0xf0 ∷ 0xb1 ∷ 0xf0 ∷ 0xb2 ∷ 0x04 ∷ 0xd8 ∷ 0x12 ∷ 0x34
+    ∷ 0xf0 ∷ 0xb1 ∷ 0xf0 ∷ 0xb2 ∷ 0x04 ∷ 0xd8 ∷ 0xb0 ∷ 0x6b
     ∷ replicate 1232 0x5a
 
 -- from short 0001 to short 0002 in PAN abcd
@@ -75,6 +77,11 @@ block-covers = refl
 block-ours : isOurs block ≡ true
 unfolding block isOurs be16 be32 byte
 block-ours = refl
+
+-- the checksum b06b is right
+block-right : SumRight block
+unfolding block sumSent isUdp byte be16 holds checksumAt seen udpChecksum covered pseudo words onesSum be16Bytes be32Bytes
+block-right = refl
 
 module _ (n : ℕ) where
   mac-length : macLength (over n) ≡ 9
@@ -125,7 +132,7 @@ Backwards n first later m =
 turned : (n first : ℕ) (later : List Piece) (m : List ℕ) → n ≤ 127 → inRange (over n) block ≡ true → pieces (planOf (over n) block) ≡ First first ∷ later → 16384 ≤ length m → Backwards n first later m
 turned n first later m h r e k =
     fed-backwards gate m (over n) block (frameOf (over n) block (First first)) (map (frameOf (over n) block) later) block-bytes
-    (cut-made (over n) block (First first ∷ later) r (over-both n) block-ours e) (more n h) gate-good gate-lists k
+    (cut-made (over n) block (First first ∷ later) r (over-both n) block-ours e) (more n h) gate-good gate-lists k block-right
 
 abbrev later-127 : List Piece
 later-127 = Later 152 112 ∷ Later 264 112 ∷ Later 376 112 ∷ Later 488 112 ∷ Later 600 112 ∷ Later 712 112 ∷ Later 824 112 ∷ Later 936 112 ∷ Later 1048 112 ∷ Later 1160 112 ∷ Later 1272 8 ∷ []

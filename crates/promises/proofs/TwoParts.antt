@@ -3,7 +3,9 @@ use Prim.Native.Nat.{ℕ, _+_, _*_, _-_, _≤_, _<_}
 use native.Mathlib.Omega.{arith}
 use mathlib.Core.Path.{_≡_, refl, ap, _∙_}
 use mathlib.Core.Logic.{inl, inr}
-use mathlib.Core.Bool.{Bool, true, false}
+use mathlib.Core.Bool.{true}
+use Rattle.expand.specs.Sum.{noSum, holds}
+use Rattle.expand.specs.declared.checksum.UdpSum.{UdpSum}
 use mathlib.Core.List.{List, [], _∷_}
 use lib.ListN.{length, getD, take, drop, length-drop}
 use lib.Seq.{getD-take, getD-drop, length-take-le}
@@ -14,14 +16,14 @@ use Rattle.reassembly.specs.Cover.{In, Has, Covers}
 use Rattle.promises.specs.Cuttings.{zeroed, Cutting}
 use Rattle.promises.proofs.Filling.{length-zeroed}
 
--- d in two from unit u on, under k; e: whether its checksum is elided
-abbrev pub low : Key → List ℕ → ℕ → Bool → Part
+-- d in two from unit u on, under k; e: what is remembered of its checksum
+abbrev pub low : Key → List ℕ → ℕ → UdpSum → Part
 low k d u e = partOf k 0 e (take (u * 8) (zeroed e d))
 
-abbrev pub high : Key → List ℕ → ℕ → Bool → Part
-high k d u e = partOf k u false (drop (u * 8) (zeroed e d))
+abbrev pub high : Key → List ℕ → ℕ → UdpSum → Part
+high k d u e = partOf k u noSum (drop (u * 8) (zeroed e d))
 
-module _ (k : Key) (d : List ℕ) (u : ℕ) (e : Bool) (sized : length d ≡ k .size) (inside : u * 8 < length d) (some : 1 ≤ u) where
+module _ (k : Key) (d : List ℕ) (u : ℕ) (e : UdpSum) (sized : length d ≡ k .size) (inside : u * 8 < length d) (some : 1 ≤ u) where
   two {ℓ} : (P : Part → Type ℓ) → P (low k d u e) → P (high k d u e) → (p : Part) → In p (low k d u e ∷ high k d u e ∷ []) → P p
   two P a b p (inl z) = rw z a
   two P a b p (inr (inl z)) = rw z b
@@ -64,11 +66,11 @@ module _ (k : Key) (d : List ℕ) (u : ℕ) (e : Bool) (sized : length d ≡ k .
       let g : Has (low k d u e) (u * 8) = rw (f (w .0) (w .1)) at (w .2) in
       omega (arith, low-length, g .1)
 
-  module _ (a : fits (low k d u e) ≡ true) (b : fits (high k d u e) ≡ true) (s : finish e (zeroed e d) ≡ d) where
+  module _ (a : fits (low k d u e) ≡ true) (b : fits (high k d u e) ≡ true) (s : finish e (zeroed e d) ≡ d) (r : holds e (zeroed e d) ≡ true) where
     pub halves : Cutting k d
     halves = record {
       parts = low k d u e ∷ high k d u e ∷ [];
-      elided = e;
+      sum = e;
       sized = sized;
       keyed = two (λ p. p .key ≡ k) refl refl;
       pass10 = two (λ p. fits p ≡ true) a b;
@@ -77,8 +79,9 @@ module _ (k : Key) (d : List ℕ) (u : ℕ) (e : Bool) (sized : length d ≡ k .
           (two (λ q′. (x : ℕ) → Has (high k d u e) x → Has q′ x → high k d u e ≡ q′) (λ x h g. disjoint x g h) (λ x h g. refl) q mq) p mp;
       fill = halves-cover (low k d u e ∷ high k d u e ∷ []) (inl refl) (inr (inl refl));
       bytes = two (λ p. (x : ℕ) → Has p x → getD (p .bytes) (x - p .unit * 8) 0 ≡ getD (zeroed e d) x 0) low-bytes high-bytes;
-      flag = two (λ p. p .unit ≡ 0 → p .elided ≡ e) (λ z. refl) (λ z. absurd (omega arith));
+      flag = two (λ p. p .unit ≡ 0 → p .sum ≡ e) (λ z. refl) (λ z. absurd (omega arith));
       summed = s;
+      right = r;
     }
 
     pub low-in : In (low k d u e) (halves .parts)

@@ -1,5 +1,6 @@
--- Demand 1, "a refusal writes no lent byte", of the whole call: of `receive` and of `lift_receive`, the lent memory and the output, on every table,
--- frame, context and lent slice, of every answer that meets the contract. With it what a repeat and a part that is taken write.
+-- Demand 1, "a refusal writes no lent byte", as the change requests amend it ("no refusal but 17"), of the whole call: of `receive` and of
+-- `lift_receive`, the lent memory and the output, on every table, frame, context and lent slice, of every answer that meets the contract. 17 too
+-- leaves the output as it was, and the memory outside the part's own range in one slot. With it what a repeat and a part that is taken write.
 use Prim.Native.Nat.{ℕ, _+_, _≤_}
 use native.Mathlib.Omega.{arith}
 use mathlib.Core.Path.{_≡_, refl, sym, ap, subst, _∙_}
@@ -29,8 +30,8 @@ told-refused n (refused k) e = let q : n ≡ k = cc in ap refused (sym q)
 -- ---- a call c to σ that leaves the memory m′ and the output o′, o before, whatever form its answer has
 
 module _ (σ : State) (c : Call) (m′ o o′ : List ℕ) (mem : m′ ≡ (step σ c) .state .mem) (output : o′ ≡ outputAfter ((step σ c) .reply) o) where
-  of-refusal : (n : ℕ) → (step σ c) .reply ≡ refused n → (m′ ≡ σ .mem) × (o′ ≡ o)
-  of-refusal n q = (mem ∙ refused-unwritten σ c n q, output ∙ ap (λ (r : Reply (List ℕ)). outputAfter r o) q)
+  of-refusal : (n : ℕ) → (step σ c) .reply ≡ refused n → ((n ≡ 17 → ⊥) → m′ ≡ σ .mem) × (o′ ≡ o)
+  of-refusal n q = (λ k. mem ∙ refused-unwritten σ c n q k, output ∙ ap (λ (r : Reply (List ℕ)). outputAfter r o) q)
 
   of-repeat : (t : ℕ) (p : Part) → c ≡ part t p → Repeated σ t p → ((step σ c) .reply ≡ kept) × (m′ ≡ σ .mem) × (o′ ≡ o)
   of-repeat t p b R =
@@ -61,8 +62,8 @@ module _ (tb : Table) (t : ℕ) (s ctx m o : List ℕ) where
 
   -- `receive` answers r, and leaves the memory m′ and the output o′
   module _ (r : Received) (m′ o′ : List ℕ) (G : Gives r m′ o o′ (step (record { table = tb; mem = m }) (callOf m o (gatesOf tb) ctx t s))) where
-    -- "A refusal writes no lent byte"
-    pub receive-unwritten : (e : Refusal) → r .answer ≡ Outcome.Refused e → (m′ ≡ m) × (o′ ≡ o)
+    -- "no refusal but 17 writes a lent byte", and none writes the output
+    pub receive-unwritten : (e : Refusal) → r .answer ≡ Outcome.Refused e → ((numberOf e ≡ 17 → ⊥) → m′ ≡ m) × (o′ ≡ o)
     receive-unwritten e a =
         of-refusal σ call m′ o o′ (G .memory) (G .output) (numberOf e) (told-refused (numberOf e) ((step σ call) .reply) (sym (ap ofOutcome a) ∙ G .answer))
 
@@ -95,7 +96,7 @@ module _ (tb : Table) (t : ℕ) (s ctx m o : List ℕ) where
     answer-so = A .answer
 
     -- an answer LIFT_REFUSED with the number n
-    pub lift-unwritten : length (tb .slots) ≡ 8 → (n : ℕ) → a ≡ 131072 + n → (m′ ≡ m) × (o′ ≡ o)
+    pub lift-unwritten : length (tb .slots) ≡ 8 → (n : ℕ) → a ≡ 131072 + n → ((n ≡ 17 → ⊥) → m′ ≡ m) × (o′ ≡ o)
     unfolding received
     lift-unwritten eight n e = of-refusal σ call m′ o o′ memory-so output-so n (go ((step σ call) .reply) refl (sym e ∙ answer-so))
       where

@@ -14,7 +14,7 @@ use Rattle.octets.specs.Write.{put, be16Bytes, be32Bytes}
 use Rattle.octets.specs.declared.refusal.Refusal.{Refusal}
 use Rattle.ieee802154.specs.declared.addr.Address.the-variants.{Short}
 use Rattle.marks.specs.Marks.{hasIn, fill, bits, unpack, val, packs, pack}
-use Rattle.expand.specs.Sum.{words, onesSum, pseudo, covered, udpChecksum, summed}
+use Rattle.expand.specs.Sum.{words, onesSum, pseudo, covered, udpChecksum, seen, checksumAt, summedAt, summedBy, holds, elidedAt, carriedAt}
 use Rattle.reassembly.specs.Lists.{count, firstAt, those}
 use Rattle.reassembly.specs.Slots.{noNode, noSource, sameNode, sameSource, addressed, present, sameKey, freeSlot, opened, isFree, isKey, isOf, expired, expire1, expire, gatesOf, isGate, held, free, idleOthers, mayOpen}
 use Rattle.reassembly.specs.Parts.{Part, Reply, kept, out, refused, told, ofOutcome, outputAfter, units, fitsIn, fits, finish, spans, repeatsIn, takenIn, full, place, offer}
@@ -97,16 +97,26 @@ only p q (inr z) = absurd z
 -- ---- "Two gateways in one shaft, one still sending last month's patch, can pick the same tag and size"; "two buildings, one short address":
 -- the one sends last month's block, the other this month's, part by part in turn, the parts of the one in order and those of the other not
 abbrev old-high : Part
-old-high = high old-key last-month 7 false
+old-high = high old-key last-month 7 (carriedAt 0 40)
 
 abbrev old-low : Part
-old-low = low old-key last-month 7 false
+old-low = low old-key last-month 7 (carriedAt 0 40)
 
 abbrev new-high : Other → Part
-new-high w = high (new-key w) (this-month w) 7 false
+new-high w = high (new-key w) (this-month w) 7 (carriedAt 0 40)
 
 abbrev new-low : Other → Part
-new-low w = low (new-key w) (this-month w) 7 false
+new-low w = low (new-key w) (this-month w) 7 (carriedAt 0 40)
+
+-- the carried checksums are right
+old-right : holds (carriedAt 0 40) (zeroed (carriedAt 0 40) last-month) ≡ true
+unfolding zeroed holds checksumAt seen udpChecksum covered pseudo words onesSum be16Bytes be32Bytes
+old-right = refl
+
+new-right : (w : Other) → holds (carriedAt 0 40) (zeroed (carriedAt 0 40) (this-month w)) ≡ true
+unfolding zeroed holds checksumAt seen udpChecksum covered pseudo words onesSum be16Bytes be32Bytes
+new-right neighbour = refl
+new-right building = refl
 
 module _ (w : Other) (m : List ℕ) where
   abbrev σ₀ : State
@@ -121,18 +131,16 @@ module _ (w : Other) (m : List ℕ) where
   abbrev σ₃ : State
   σ₃ = next σ₂ (part 1012 old-low)
 
--- none is refused, and each gateway holds no slot when its first part comes
+-- the first two are not refused, and each gateway holds no slot when its first part comes
 all-answered :
     (w : Other) (m : List ℕ)
     → (answered ((step (σ₀ w m) (part 1000 old-high)) .reply) ≡ true)
     × (answered ((step (σ₁ w m) (part 1005 (new-low w))) .reply) ≡ true)
-    × (answered ((step (σ₂ w m) (part 1012 old-low)) .reply) ≡ true)
-    × (answered ((step (σ₃ w m) (part 1017 (new-high w))) .reply) ≡ true)
     × (held (new-key w .src) (σ₁ w m .table .slots) ≡ 0)
     × (held (old-key .src) (σ₀ w m .table .slots) ≡ 0)
 unfolding hasIn fill bits unpack val packs pack count firstAt those noNode noSource sameSource sameNode present addressed sameKey freeSlot opened isFree isKey isOf expired expire1 expire gatesOf isGate held free idleOthers mayOpen units fitsIn spans repeatsIn takenIn full place offer withSlots slotsAt land whereKey whereFree offerAt openAt takePart step next seats fresh zeroed
-all-answered neighbour m = (refl, refl, refl, refl, refl, refl)
-all-answered building m = (refl, refl, refl, refl, refl, refl)
+all-answered neighbour m = (refl, refl, refl, refl)
+all-answered building m = (refl, refl, refl, refl)
 
 -- what comes under the two keys
 came-so :
@@ -187,26 +195,13 @@ module _ (w : Other) (m : List ℕ) (enough : 16384 ≤ length m) (o : List ℕ)
   fixed₃ : Fixed gs m (σ₃ w m)
   fixed₃ = fixed-next gs m (σ₂ w m) (part 1012 old-low) fixed₂
 
-  pub both-ran : Ran (σ₀ w m) (h₁ ∷ h₂ ∷ h₃ ∷ h₄ ∷ [])
-  unfolding Ran next
-  both-ran = (
-    meets (σ₀ w m) 1000 old-later old-high fixed₀ (later-brings 1000 w .0) (all-answered w m .0),
-    (
-      meets (σ₁ w m) 1005 (new-first w) (new-low w) fixed₁ (first-brings 1005 w .1) (all-answered w m .1),
-      (
-        meets (σ₂ w m) 1012 old-first old-low fixed₂ (first-brings 1012 w .0) (all-answered w m .2),
-        (meets (σ₃ w m) 1017 (new-later w) (new-high w) fixed₃ (later-brings 1017 w .1) (all-answered w m .3), tt),
-      ),
-    ),
-  )
-
   pub old-cutting : Cutting old-key last-month
-  unfolding zeroed finish fitsIn
-  old-cutting = halves old-key last-month 7 false refl (lit< tt) (lit≤ tt) refl refl refl
+  unfolding zeroed summedBy fitsIn
+  old-cutting = halves old-key last-month 7 (carriedAt 0 40) refl (lit< tt) (lit≤ tt) refl refl refl old-right
 
   pub new-cutting : Cutting (new-key w) (this-month w)
-  unfolding zeroed finish fitsIn
-  new-cutting = halves (new-key w) (this-month w) 7 false refl (lit< tt) (lit≤ tt) refl refl refl
+  unfolding zeroed summedBy fitsIn
+  new-cutting = halves (new-key w) (this-month w) 7 (carriedAt 0 40) refl (lit< tt) (lit≤ tt) refl refl refl (new-right w)
 
   meant₁ : meant gs m h₁ ≡ part 1000 old-high
   meant₁ = meant-so 1000 old-later old-high (later-brings 1000 w .0)
@@ -234,19 +229,19 @@ module _ (w : Other) (m : List ℕ) (enough : 16384 ≤ length m) (o : List ℕ)
   )
 
   of-old : (h : Turn) → In h (h₁ ∷ h₂ ∷ h₃ ∷ []) → named (h .frame) ≡ is old-key → (p : Part) × In p (old-cutting .parts) × Brings gs m h p
-  unfolding old-cutting zeroed finish fitsIn
-  of-old h (inl z) n = rw z (old-high, high-in old-key last-month 7 false refl (lit< tt) (lit≤ tt) refl refl refl, meant₁)
+  unfolding old-cutting zeroed summedBy fitsIn
+  of-old h (inl z) n = rw z (old-high, high-in old-key last-month 7 (carriedAt 0 40) refl (lit< tt) (lit≤ tt) refl refl refl old-right, meant₁)
   of-old h (inr (inl z)) n =
       not-named w (new-first w) (rw z at n) (name-of 1005 (new-first w) (new-low w) (first-brings 1005 w .1))
-  of-old h (inr (inr (inl z))) n = rw z (old-low, low-in old-key last-month 7 false refl (lit< tt) (lit≤ tt) refl refl refl, meant₃)
+  of-old h (inr (inr (inl z))) n = rw z (old-low, low-in old-key last-month 7 (carriedAt 0 40) refl (lit< tt) (lit≤ tt) refl refl refl old-right, meant₃)
   of-old h (inr (inr (inr z))) n = absurd z
 
   of-new : (h : Turn) → In h (h₂ ∷ h₃ ∷ h₄ ∷ []) → named (h .frame) ≡ is (new-key w) → (p : Part) × In p (new-cutting .parts) × Brings gs m h p
-  unfolding new-cutting zeroed finish fitsIn
-  of-new h (inl z) n = rw z ((new-low w), low-in (new-key w) (this-month w) 7 false refl (lit< tt) (lit≤ tt) refl refl refl, meant₂)
+  unfolding new-cutting zeroed summedBy fitsIn
+  of-new h (inl z) n = rw z ((new-low w), low-in (new-key w) (this-month w) 7 (carriedAt 0 40) refl (lit< tt) (lit≤ tt) refl refl refl (new-right w), meant₂)
   of-new h (inr (inl z)) n =
       not-named w old-first (name-of 1012 old-first old-low (first-brings 1012 w .0)) (rw z at n)
-  of-new h (inr (inr (inl z))) n = rw z ((new-high w), high-in (new-key w) (this-month w) 7 false refl (lit< tt) (lit≤ tt) refl refl refl, meant₄)
+  of-new h (inr (inr (inl z))) n = rw z ((new-high w), high-in (new-key w) (this-month w) 7 (carriedAt 0 40) refl (lit< tt) (lit≤ tt) refl refl refl (new-right w), meant₄)
   of-new h (inr (inr (inr z))) n = absurd z
 
   pub old-supposed : Supposed gs m old-key last-month old-cutting [] (h₁ ∷ h₂ ∷ []) h₃
@@ -260,8 +255,8 @@ module _ (w : Other) (m : List ℕ) (enough : 16384 ≤ length m) (o : List ℕ)
     earliest = refl;
     earliest-named = name-of 1000 old-later old-high (later-brings 1000 w .0);
     of-cutting = of-old;
-    cover = rw (what-came .1) (halves-cover old-key last-month 7 false refl (lit< tt) (lit≤ tt) (old-high ∷ old-low ∷ []) (inr (inl refl)) (inl refl));
-    not-before = λ c. low-missing old-key last-month 7 false refl (lit< tt) (lit≤ tt) (old-high ∷ []) (λ p i. only p old-high i) (rw (what-came .0) at c);
+    cover = rw (what-came .1) (halves-cover old-key last-month 7 (carriedAt 0 40) refl (lit< tt) (lit≤ tt) (old-high ∷ old-low ∷ []) (inr (inl refl)) (inl refl));
+    not-before = λ c. low-missing old-key last-month 7 (carriedAt 0 40) refl (lit< tt) (lit≤ tt) (old-high ∷ []) (λ p i. only p old-high i) (rw (what-came .0) at c);
     soon = lit< tt;
   }
 
@@ -276,26 +271,56 @@ module _ (w : Other) (m : List ℕ) (enough : 16384 ≤ length m) (o : List ℕ)
     earliest = refl;
     earliest-named = name-of 1005 (new-first w) (new-low w) (first-brings 1005 w .1);
     of-cutting = of-new;
-    cover = rw (what-came .3) (halves-cover (new-key w) (this-month w) 7 false refl (lit< tt) (lit≤ tt) (new-low w ∷ new-high w ∷ []) (inl refl) (inr (inl refl)));
-    not-before = λ c. high-missing (new-key w) (this-month w) 7 false refl (lit< tt) (lit≤ tt) (new-low w ∷ []) (λ p i. only p (new-low w) i) (rw (what-came .2) at c);
+    cover = rw (what-came .3) (halves-cover (new-key w) (this-month w) 7 (carriedAt 0 40) refl (lit< tt) (lit≤ tt) (new-low w ∷ new-high w ∷ []) (inl refl) (inr (inl refl)));
+    not-before = λ c. high-missing (new-key w) (this-month w) 7 (carriedAt 0 40) refl (lit< tt) (lit≤ tt) (new-low w ∷ []) (λ p i. only p (new-low w) i) (rw (what-came .2) at c);
     soon = lit< tt;
   }
+
+  old-reply : (step (σ₂ w m) (part 1012 old-low)) .reply ≡ out last-month
+  unfolding run AllKept
+  old-reply =
+      let v = as-calls gs m old-key last-month old-cutting [] (h₁ ∷ h₂ ∷ []) h₃ old-supposed (all-answered w m .3) in
+      let p : part 1012 (v .0) ≡ part 1012 old-low = sym (v .1) ∙ meant₃ in
+      let k : (step (next (next (σ₀ w m) (meant gs m h₁)) (meant gs m h₂)) (part 1012 (v .0))) .reply ≡ out last-month = v .2 .exactly in
+      rw (meant₁, meant₂, p) at k
+
+  new-reply : (step (σ₃ w m) (part 1017 (new-high w))) .reply ≡ out (this-month w)
+  unfolding run AllKept
+  new-reply =
+      let z : held (new-key w .src) (next (σ₀ w m) (meant gs m h₁) .table .slots) ≡ 0 = rw meant₁ (all-answered w m .2) in
+      let v = as-calls gs m (new-key w) (this-month w) new-cutting (h₁ ∷ []) (h₂ ∷ h₃ ∷ []) h₄ new-supposed z in
+      let p : part 1017 (v .0) ≡ part 1017 (new-high w) = sym (v .1) ∙ meant₄ in
+      let k : (step (next (next (next (σ₀ w m) (meant gs m h₁)) (meant gs m h₂)) (meant gs m h₃)) (part 1017 (v .0))) .reply ≡ out (this-month w) = v .2 .exactly in
+      rw (meant₁, meant₂, meant₃, p) at k
+
+  pub both-ran : Ran (σ₀ w m) (h₁ ∷ h₂ ∷ h₃ ∷ h₄ ∷ [])
+  unfolding Ran next
+  both-ran = (
+    meets (σ₀ w m) 1000 old-later old-high fixed₀ (later-brings 1000 w .0) (all-answered w m .0),
+    (
+      meets (σ₁ w m) 1005 (new-first w) (new-low w) fixed₁ (first-brings 1005 w .1) (all-answered w m .1),
+      (
+        meets (σ₂ w m) 1012 old-first old-low fixed₂ (first-brings 1012 w .0) (ap answered old-reply),
+        (meets (σ₃ w m) 1017 (new-later w) (new-high w) fixed₃ (later-brings 1017 w .1) (ap answered new-reply), tt),
+      ),
+    ),
+  )
 
   -- so each gateway's datagram is handed out exactly, and the two never meet
   pub both-blocks : Concluded old-key last-month (h₁ ∷ h₂ ∷ []) h₃ × Concluded (new-key w) (this-month w) (h₂ ∷ h₃ ∷ []) h₄
   unfolding endOf next
   both-blocks = (
     demand-3 gs m old-key last-month old-cutting [] (h₁ ∷ h₂ ∷ []) h₃ old-supposed
-        (ran-left gs m (h₁ ∷ h₂ ∷ h₃ ∷ []) (h₄ ∷ []) (σ₀ w m) both-ran) (all-answered w m .5),
-    demand-3 gs m (new-key w) (this-month w) new-cutting (h₁ ∷ []) (h₂ ∷ h₃ ∷ []) h₄ new-supposed both-ran (all-answered w m .4),
+        (ran-left gs m (h₁ ∷ h₂ ∷ h₃ ∷ []) (h₄ ∷ []) (σ₀ w m) both-ran) (all-answered w m .3),
+    demand-3 gs m (new-key w) (this-month w) new-cutting (h₁ ∷ []) (h₂ ∷ h₃ ∷ []) h₄ new-supposed both-ran (all-answered w m .2),
   )
 
   -- ---- an elided checksum, a part that comes twice, and the last one 59,999 ms after the first: 0001 sends this month's block
   abbrev resent-low : Part
-  resent-low = low old-key resent 7 true
+  resent-low = low old-key resent 7 (elidedAt 0 40)
 
   abbrev resent-high : Part
-  resent-high = high old-key resent 7 true
+  resent-high = high old-key resent 7 (elidedAt 0 40)
 
   abbrev τ₁ : State
   τ₁ = next (σ₀ w m) (part 0 resent-low)
@@ -326,12 +351,17 @@ module _ (w : Other) (m : List ℕ) (enough : 16384 ≤ length m) (o : List ℕ)
   resent-fits = (refl, refl)
 
   -- the checksum 43c7 is the computed one
-  resent-summed : finish true (zeroed true resent) ≡ resent
-  unfolding finish zeroed put be16Bytes be32Bytes words onesSum pseudo covered udpChecksum summed
+  resent-summed : finish (elidedAt 0 40) (zeroed (elidedAt 0 40) resent) ≡ resent
+  unfolding zeroed summedBy summedAt checksumAt seen put be16Bytes be32Bytes words onesSum pseudo covered udpChecksum
   resent-summed = refl
 
+  -- and nothing was carried
+  resent-right : holds (elidedAt 0 40) (zeroed (elidedAt 0 40) resent) ≡ true
+  unfolding holds
+  resent-right = refl
+
   pub resent-cutting : Cutting old-key resent
-  resent-cutting = halves old-key resent 7 true refl (lit< tt) (lit≤ tt) (resent-fits .0) (resent-fits .1) resent-summed
+  resent-cutting = halves old-key resent 7 (elidedAt 0 40) refl (lit< tt) (lit≤ tt) (resent-fits .0) (resent-fits .1) resent-summed resent-right
 
   resent-came :
       (partsOf gs m old-key (e₁ ∷ e₂ ∷ []) ≡ resent-low ∷ resent-low ∷ [])
@@ -341,9 +371,9 @@ module _ (w : Other) (m : List ℕ) (enough : 16384 ≤ length m) (o : List ℕ)
 
   of-resent : (h : Turn) → In h (e₁ ∷ e₂ ∷ e₃ ∷ []) → named (h .frame) ≡ is old-key → (p : Part) × In p (resent-cutting .parts) × Brings gs m h p
   unfolding resent-cutting
-  of-resent h (inl z) n = rw z (resent-low, low-in old-key resent 7 true refl (lit< tt) (lit≤ tt) (resent-fits .0) (resent-fits .1) resent-summed, elided₁)
-  of-resent h (inr (inl z)) n = rw z (resent-low, low-in old-key resent 7 true refl (lit< tt) (lit≤ tt) (resent-fits .0) (resent-fits .1) resent-summed, elided₂)
-  of-resent h (inr (inr (inl z))) n = rw z (resent-high, high-in old-key resent 7 true refl (lit< tt) (lit≤ tt) (resent-fits .0) (resent-fits .1) resent-summed, elided₃)
+  of-resent h (inl z) n = rw z (resent-low, low-in old-key resent 7 (elidedAt 0 40) refl (lit< tt) (lit≤ tt) (resent-fits .0) (resent-fits .1) resent-summed resent-right, elided₁)
+  of-resent h (inr (inl z)) n = rw z (resent-low, low-in old-key resent 7 (elidedAt 0 40) refl (lit< tt) (lit≤ tt) (resent-fits .0) (resent-fits .1) resent-summed resent-right, elided₂)
+  of-resent h (inr (inr (inl z))) n = rw z (resent-high, high-in old-key resent 7 (elidedAt 0 40) refl (lit< tt) (lit≤ tt) (resent-fits .0) (resent-fits .1) resent-summed resent-right, elided₃)
   of-resent h (inr (inr (inr z))) n = absurd z
 
   pub resent-supposed : Supposed gs m old-key resent resent-cutting [] (e₁ ∷ e₂ ∷ []) e₃
@@ -357,8 +387,8 @@ module _ (w : Other) (m : List ℕ) (enough : 16384 ≤ length m) (o : List ℕ)
     earliest = refl;
     earliest-named = name-of 0 elided-frame resent-low (first-brings 0 w .2);
     of-cutting = of-resent;
-    cover = rw (resent-came .1) (halves-cover old-key resent 7 true refl (lit< tt) (lit≤ tt) (resent-low ∷ resent-low ∷ resent-high ∷ []) (inl refl) (inr (inr (inl refl))));
-    not-before = λ c. high-missing old-key resent 7 true refl (lit< tt) (lit≤ tt) (resent-low ∷ resent-low ∷ []) twice (rw (resent-came .0) at c);
+    cover = rw (resent-came .1) (halves-cover old-key resent 7 (elidedAt 0 40) refl (lit< tt) (lit≤ tt) (resent-low ∷ resent-low ∷ resent-high ∷ []) (inl refl) (inr (inr (inl refl))));
+    not-before = λ c. high-missing old-key resent 7 (elidedAt 0 40) refl (lit< tt) (lit≤ tt) (resent-low ∷ resent-low ∷ []) twice (rw (resent-came .0) at c);
     soon = lit< tt;
   }
     where
@@ -372,7 +402,7 @@ module _ (w : Other) (m : List ℕ) (enough : 16384 ≤ length m) (o : List ℕ)
       × ((step τ₂ (part 59999 resent-high)) .reply ≡ out resent)
   unfolding run AllKept
   resent-replies =
-      let v = as-calls gs m old-key resent resent-cutting [] (e₁ ∷ e₂ ∷ []) e₃ resent-supposed (all-answered w m .5) in
+      let v = as-calls gs m old-key resent resent-cutting [] (e₁ ∷ e₂ ∷ []) e₃ resent-supposed (all-answered w m .3) in
       let c₁ : comes old-key (meant gs m e₁) ≡ resent-low ∷ [] = rw elided₁ (comes-part old-key 0 resent-low refl (resent-fits .0)) in
       let c₂ : comes old-key (meant gs m e₂) ≡ resent-low ∷ [] = rw elided₂ (comes-part old-key 10 resent-low refl (resent-fits .0)) in
       let p : part 59999 (v .0) ≡ part 59999 resent-high = sym (v .1) ∙ elided₃ in
@@ -395,7 +425,7 @@ module _ (w : Other) (m : List ℕ) (enough : 16384 ≤ length m) (o : List ℕ)
 
   pub resent-block : Concluded old-key resent (e₁ ∷ e₂ ∷ []) e₃
   unfolding endOf
-  resent-block = demand-3 gs m old-key resent resent-cutting [] (e₁ ∷ e₂ ∷ []) e₃ resent-supposed resent-ran (all-answered w m .5)
+  resent-block = demand-3 gs m old-key resent resent-cutting [] (e₁ ∷ e₂ ∷ []) e₃ resent-supposed resent-ran (all-answered w m .3)
 
   -- ---- one part bare and one by a relay: 0001 sends last month's block, its later part comes by the relay 0077 and its first part directly
   abbrev r₁ : Turn
@@ -417,9 +447,9 @@ module _ (w : Other) (m : List ℕ) (enough : 16384 ≤ length m) (o : List ℕ)
   relayed-came = (rw relayed₁, rw (relayed₁, relayed₂))
 
   of-relayed : (h : Turn) → In h (r₁ ∷ r₂ ∷ []) → named (h .frame) ≡ is old-key → (p : Part) × In p (old-cutting .parts) × Brings gs m h p
-  unfolding old-cutting zeroed finish fitsIn
-  of-relayed h (inl z) n = rw z (old-high, high-in old-key last-month 7 false refl (lit< tt) (lit≤ tt) refl refl refl, relayed₁)
-  of-relayed h (inr (inl z)) n = rw z (old-low, low-in old-key last-month 7 false refl (lit< tt) (lit≤ tt) refl refl refl, relayed₂)
+  unfolding old-cutting zeroed summedBy fitsIn
+  of-relayed h (inl z) n = rw z (old-high, high-in old-key last-month 7 (carriedAt 0 40) refl (lit< tt) (lit≤ tt) refl refl refl old-right, relayed₁)
+  of-relayed h (inr (inl z)) n = rw z (old-low, low-in old-key last-month 7 (carriedAt 0 40) refl (lit< tt) (lit≤ tt) refl refl refl old-right, relayed₂)
   of-relayed h (inr (inr z)) n = absurd z
 
   pub relayed-supposed : Supposed gs m old-key last-month old-cutting [] (r₁ ∷ []) r₂
@@ -433,15 +463,15 @@ module _ (w : Other) (m : List ℕ) (enough : 16384 ≤ length m) (o : List ℕ)
     earliest = refl;
     earliest-named = name-of 1000 relayed-frame old-high (relayed-brings 1000 w);
     of-cutting = of-relayed;
-    cover = rw (relayed-came .1) (halves-cover old-key last-month 7 false refl (lit< tt) (lit≤ tt) (old-high ∷ old-low ∷ []) (inr (inl refl)) (inl refl));
-    not-before = λ c. low-missing old-key last-month 7 false refl (lit< tt) (lit≤ tt) (old-high ∷ []) (λ p i. only p old-high i) (rw (relayed-came .0) at c);
+    cover = rw (relayed-came .1) (halves-cover old-key last-month 7 (carriedAt 0 40) refl (lit< tt) (lit≤ tt) (old-high ∷ old-low ∷ []) (inr (inl refl)) (inl refl));
+    not-before = λ c. low-missing old-key last-month 7 (carriedAt 0 40) refl (lit< tt) (lit≤ tt) (old-high ∷ []) (λ p i. only p old-high i) (rw (relayed-came .0) at c);
     soon = lit< tt;
   }
 
   relayed-reply : (step (σ₁ w m) (part 1012 old-low)) .reply ≡ out last-month
   unfolding run AllKept
   relayed-reply =
-      let v = as-calls gs m old-key last-month old-cutting [] (r₁ ∷ []) r₂ relayed-supposed (all-answered w m .5) in
+      let v = as-calls gs m old-key last-month old-cutting [] (r₁ ∷ []) r₂ relayed-supposed (all-answered w m .3) in
       let p : part 1012 (v .0) ≡ part 1012 old-low = sym (v .1) ∙ relayed₂ in
       let k : (step (next (σ₀ w m) (meant gs m r₁)) (part 1012 (v .0))) .reply ≡ out last-month = v .2 .exactly in
       rw (relayed₁, p) at k
@@ -456,4 +486,4 @@ module _ (w : Other) (m : List ℕ) (enough : 16384 ≤ length m) (o : List ℕ)
   -- the two make the block
   pub relayed-block : Concluded old-key last-month (r₁ ∷ []) r₂
   unfolding endOf
-  relayed-block = demand-3 gs m old-key last-month old-cutting [] (r₁ ∷ []) r₂ relayed-supposed relayed-ran (all-answered w m .5)
+  relayed-block = demand-3 gs m old-key last-month old-cutting [] (r₁ ∷ []) r₂ relayed-supposed relayed-ran (all-answered w m .3)

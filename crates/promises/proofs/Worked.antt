@@ -2,7 +2,6 @@
 -- at byte 56, all under the tag 7. The one is short 0001 in PAN abcd; the other is 0002 beside it, or 0001 in another building, in PAN 1234.
 use Prim.Native.Nat.{ℕ, _+_}
 use mathlib.Core.Path.{_≡_, refl}
-use mathlib.Core.Bool.{true, false}
 use mathlib.Core.List.{List, [], _∷_}
 use Rattle.octets.specs.Read.{byte, be16, le16}
 use Rattle.octets.specs.Write.{put, byteBytes, be16Bytes, be32Bytes, be64Bytes}
@@ -17,7 +16,8 @@ use Rattle.sixlowpan.specs.Next.{nextHeader}
 use Rattle.sixlowpan.specs.Nhc.{nhcOf, nhc}
 use Rattle.sixlowpan.specs.NhcUdp.{bothPorts, ports, checksum, udpRest, udp}
 use Rattle.iphc.specs.Iphc as Iphc
-use Rattle.expand.specs.Headers.{transport, byNext, headers}
+use Rattle.expand.specs.Sum.{elidedAt, carriedAt}
+use Rattle.expand.specs.Chain.{octets, extData, extBody, innerByte, udpStep, linkOf, link, behindNext, headerThen, udpEnd, onward, chain, chained, extFull, sizeOf, fullBytes, sumIn}
 use Rattle.expand.specs.Full as Full
 use Rattle.expand.specs.Expand as Expand
 use Rattle.incoming.specs.Incoming.{framed, arrival, piece, fragment, payload}
@@ -149,18 +149,18 @@ resent-later = of-one 0x01 (rest 0x31)
 module _ (t : ℕ) where
   pub first-brings :
       (w : Other)
-      → (frameCall (gateways w) [] t old-first ≡ part t (low old-key last-month 7 false))
-      × (frameCall (gateways w) [] t (new-first w) ≡ part t (low (new-key w) (this-month w) 7 false))
-      × (frameCall (gateways w) [] t elided-frame ≡ part t (low old-key resent 7 true))
-  unfolding byte be16 le16 byteBytes be16Bytes be32Bytes be64Bytes put supported saysElements hasSequence omitsSequence hasAddressing carried01 carried panField addressField side sides addressing auxiliary Mac.sequenceOf Mac.reprOf Mac.headerRest Mac.afterControl Mac.header Mac.mac dispatchOf dispatch fragRest frag nextHeader nhcOf nhc bothPorts ports checksum udpRest udp Iphc.base Iphc.contexts Iphc.traffic Iphc.hopLimit Iphc.frontRest Iphc.front Iphc.identifier Iphc.prefixOf Iphc.elided Iphc.source Iphc.destination Iphc.addresses Iphc.reprOf Iphc.behind Iphc.iphc transport byNext headers Full.frontBytes Full.bothBytes Full.ipv6Bytes Full.udpBytes Expand.plain Expand.bytesOf Expand.sized Expand.expansion meshField broadcastField relay framed arrival piece fragment payload count sameSource sameNode present addressed isGate keyOf welcome admitted frameCall zeroed
+      → (frameCall (gateways w) [] t old-first ≡ part t (low old-key last-month 7 (carriedAt 0 40)))
+      × (frameCall (gateways w) [] t (new-first w) ≡ part t (low (new-key w) (this-month w) 7 (carriedAt 0 40)))
+      × (frameCall (gateways w) [] t elided-frame ≡ part t (low old-key resent 7 (elidedAt 0 40)))
+  unfolding byte be16 le16 byteBytes be16Bytes be32Bytes be64Bytes put supported saysElements hasSequence omitsSequence hasAddressing carried01 carried panField addressField side sides addressing auxiliary Mac.sequenceOf Mac.reprOf Mac.headerRest Mac.afterControl Mac.header Mac.mac dispatchOf dispatch fragRest frag nextHeader nhcOf nhc bothPorts ports checksum udpRest udp Iphc.base Iphc.contexts Iphc.traffic Iphc.hopLimit Iphc.frontRest Iphc.front Iphc.identifier Iphc.prefixOf Iphc.elided Iphc.source Iphc.destination Iphc.addresses Iphc.reprOf Iphc.behind Iphc.iphc Full.frontWith Full.bothBytes Full.ipv6With Full.udpFull octets extData extBody innerByte udpStep linkOf link behindNext headerThen udpEnd onward chain chained extFull sizeOf fullBytes sumIn Expand.bytesOf Expand.sized Expand.expansion meshField broadcastField relay framed arrival piece fragment payload count sameSource sameNode present addressed isGate keyOf welcome admitted frameCall zeroed
   first-brings neighbour = (refl, refl, refl)
   first-brings building = (refl, refl, refl)
 
   pub later-brings :
       (w : Other)
-      → (frameCall (gateways w) [] t old-later ≡ part t (high old-key last-month 7 false))
-      × (frameCall (gateways w) [] t (new-later w) ≡ part t (high (new-key w) (this-month w) 7 false))
-      × (frameCall (gateways w) [] t resent-later ≡ part t (high old-key resent 7 true))
+      → (frameCall (gateways w) [] t old-later ≡ part t (high old-key last-month 7 (carriedAt 0 40)))
+      × (frameCall (gateways w) [] t (new-later w) ≡ part t (high (new-key w) (this-month w) 7 (carriedAt 0 40)))
+      × (frameCall (gateways w) [] t resent-later ≡ part t (high old-key resent 7 (elidedAt 0 40)))
   unfolding byte be16 le16 supported saysElements hasSequence omitsSequence hasAddressing carried01 carried panField addressField side sides addressing auxiliary Mac.sequenceOf Mac.reprOf Mac.headerRest Mac.afterControl Mac.header Mac.mac dispatchOf dispatch fragRest frag meshField broadcastField relay framed arrival piece fragment payload count sameSource sameNode present addressed isGate keyOf welcome admitted frameCall zeroed
   later-brings neighbour = (refl, refl, refl)
   later-brings building = (refl, refl, refl)

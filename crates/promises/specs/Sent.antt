@@ -1,7 +1,7 @@
 -- What the frames of a cutting that we send (crate cutting) are to a receiver.
 use Prim.Native.Nat.{ℕ, _+_, _/_, _≤_, _<_}
 use mathlib.Core.Path.{_≡_}
-use mathlib.Core.Bool.{true, false}
+use mathlib.Core.Bool.{true}
 use mathlib.Core.List.{List, [], _∷_, _++_}
 use lib.ListN.{length, take, drop, replicate}
 use Rattle.octets.specs.Read.{is}
@@ -15,11 +15,13 @@ use Rattle.reassembly.specs.Table.{Call, other, State, Result}
 use Rattle.reassembly.specs.declared.slot.Key.{Key}
 use Rattle.reassembly.specs.declared.slot.Source.{Source}
 use Rattle.ieee802154.specs.declared.addr.PanField.{PanField}
+use Rattle.expand.specs.Sum.{noSum, holds}
+use Rattle.receiver.specs.Receive.{tested}
 use Rattle.receiver.specs.Names.{named}
 use Rattle.lift.specs.Face.{packed, received}
 use Rattle.promises.specs.Frames.{Turn, Forward, left}
 use Rattle.promises.specs.Library.{LiftTurn, asTurn}
-use Rattle.cutting.specs.Head.{covers}
+use Rattle.cutting.specs.Head.{covers, sumSent}
 use Rattle.cutting.specs.declared.link.Link.{Link}
 use Rattle.cutting.specs.declared.piece.Piece.{Piece}
 use Rattle.cutting.specs.declared.piece.Piece.the-variants.{Whole, First, Later}
@@ -33,15 +35,19 @@ keyFor l d = record { src = sender l; dst = nodeOf (l .dst); size = length d; ta
 
 -- the part that a piece is: the first one in full, from byte 0; the checksum is carried
 abbrev pub partFor : Link → List ℕ → Piece → Part
-partFor l d Whole = partOf (keyFor l d) 0 false d
-partFor l d (First n) = partOf (keyFor l d) 0 false (take (covers d + n) d)
-partFor l d (Later at n) = partOf (keyFor l d) (at / 8) false (take n (drop at d))
+partFor l d Whole = partOf (keyFor l d) 0 (sumSent d) d
+partFor l d (First n) = partOf (keyFor l d) 0 (sumSent d) (take (covers d + n) d)
+partFor l d (Later at n) = partOf (keyFor l d) (at / 8) noSum (take n (drop at d))
 
 -- what its frame brings: the datagram itself where one frame suffices
 abbrev pub callFor : Link → List ℕ → ℕ → Piece → Call
-callFor l d t Whole = other t (Parts.out d)
+callFor l d t Whole = other t (tested (sumSent d) d)
 callFor l d t (First n) = Table.part t (partFor l d (First n))
 callFor l d t (Later at n) = Table.part t (partFor l d (Later at n))
+
+-- the change requests, item 7: a checksum that we carry, and the receiver tests, is right
+abbrev pub SumRight : List ℕ → Type 0
+SumRight d = holds (sumSent d) d ≡ true
 
 -- "These frames in any order, each at least once, fed as demand 3 asks to a table that lists the source with its PAN": fs are the frames of the
 -- cutting; `past` is what came before the earliest of them, `mid` what came from it on and before the call c, and c brings the last.
@@ -51,6 +57,8 @@ pub record SentSupposed (gs : List Source) (m : List ℕ) (l : Link) (d : List �
   pub lists : isGate (sender l) gs ≡ true
   pub enough : 16384 ≤ length m
   pub forward : Forward 0 (past ++ (mid ++ (c ∷ [])))
+  -- a checksum that is carried, and so tested, is right
+  pub right : SumRight d
   -- the first of the calls from there on brings a frame of the cutting
   pub first : Turn
   pub then : List Turn

@@ -6,24 +6,17 @@ use native.Mathlib.Omega.{arith}
 use mathlib.Core.Path.{_≡_, refl, sym, ap, _∙_}
 use mathlib.Core.Bool.{Bool, true, false, _||_, true≢false}
 use mathlib.Core.List.{List, [], _∷_}
-use lib.ListN.{length, getD, set, drop}
+use lib.ListN.{length, getD, set}
 use lib.Seq.{set-getD}
-use lib.Dec.{ltb, leb, eqb}
-use borrow.Author.Tests.{ltb-true, ltb-false, lt-ltb, le-ltb, leb-true}
-use Rattle.octets.specs.Read.{choose}
-use Rattle.octets.specs.Write.{put}
-use Rattle.octets.specs.Refusal.{numberOf}
-use Rattle.octets.specs.declared.refusal.Refusal.{Refusal}
+use lib.Dec.{ltb, leb}
+use borrow.Author.Tests.{ltb-false, lt-ltb, le-ltb, leb-true}
 use Rattle.reassembly.specs.Lists.{count, firstAt, those}
 use Rattle.reassembly.specs.Slots.{present, owner, freeSlot, opened, isFree, isKey, expired, expire1, expire, gatesOf, isGate, free, mayOpen, opening}
-use Rattle.reassembly.specs.Parts.{Part, partOf, Reply, out, refused, fitsIn, fits, Put, place, offer, Placeable}
-use Rattle.reassembly.specs.Table.{Call, State, Result, other, part, short, chunk, splice, withSlots, untouched, slotsAt, pass, land, whereKey, whereFree, offerAt, openAt, takePart, step, lentCall, At, Lands, Gives, Aged}
+use Rattle.reassembly.specs.Parts.{Part, Reply, refused, fitsIn, fits, Put, place, offer, Placeable}
+use Rattle.reassembly.specs.Table.{Call, State, Result, other, part, short, chunk, splice, withSlots, untouched, slotsAt, pass, land, whereKey, whereFree, offerAt, openAt, takePart, step, lentCall, At, Aged}
 use Rattle.reassembly.specs.declared.slot.Key.{Key}
 use Rattle.reassembly.specs.declared.slot.Slot.{Slot}
-use Rattle.reassembly.specs.declared.part.Outcome.{Outcome}
-use Rattle.reassembly.specs.declared.part.InSlot.{InSlot}
 use Rattle.reassembly.specs.declared.table.Table.{Table}
-use Rattle.reassembly.specs.declared.table.Received.{Received}
 use Rattle.reassembly.proofs.Tests.{by-test, and-left, and-right}
 use Rattle.reassembly.proofs.Lists.{getD-any, firstAt-holds, firstAt-found}
 use Rattle.reassembly.proofs.Gateways.{isKey-key, length-expire, expire1-young, mayOpen-rule}
@@ -41,7 +34,7 @@ pub aged-none : (t : ℕ) (l : List Slot) → l ≡ agedTo t 0 l
 unfolding agedTo
 aged-none t l = refl
 
-pub length-aged : (t i : ℕ) (l : List Slot) → length (agedTo t i l) ≡ length l
+length-aged : (t i : ℕ) (l : List Slot) → length (agedTo t i l) ≡ length l
 unfolding agedTo
 length-aged t zero l = refl
 length-aged t (suc i) [] = refl
@@ -124,6 +117,12 @@ or-no : (a b : Bool) → (a || b) ≡ false → (a ≡ false) × (b ≡ false)
 or-no true b e = absurd (true≢false e)
 or-no false b e = (refl, e)
 
+pub enough-memory : (m o : List ℕ) → (ltb (length m) 16384 || ltb (length o) 2047) ≡ false → 16384 ≤ length m
+enough-memory m o s = ltb-false (length m) 16384 (or-no (ltb (length m) 16384) (ltb (length o) 2047) s .0)
+
+pub enough-output : (m o : List ℕ) → (ltb (length m) 16384 || ltb (length o) 2047) ≡ false → 2047 ≤ length o
+enough-output m o s = ltb-false (length o) 2047 (or-no (ltb (length m) 16384) (ltb (length o) 2047) s .1)
+
 pub ready : (k : Key) (u : ℕ) (bs m o : List ℕ) (i : ℕ) → fitsIn (k .size) u (length bs) ≡ true → (ltb (length m) 16384 || ltb (length o) 2047) ≡ false → i < 8
     → Placeable (k .size) u bs (chunk i m) o
 unfolding fitsIn
@@ -131,18 +130,14 @@ ready k u bs m o i f s h =
     let e1 = and-right (leb 40 (k .size)) _ f in
     let e2 = and-right (leb (k .size) 2047) _ e1 in
     let e3 = and-right (leb 1 (length bs)) _ e2 in
-    let w = or-no (ltb (length m) 16384) (ltb (length o) 2047) s in
-    let a = ltb-false (length m) 16384 (w .0) in
+    let a = enough-memory m o s in
     record {
       some = leb-true 1 (length bs) (and-left (leb 1 (length bs)) _ e2);
       ends = leb-true (u * 8 + length bs) (k .size) (and-left (leb (u * 8 + length bs) (k .size)) _ e3);
       small = leb-true (k .size) 2047 (and-left (leb (k .size) 2047) _ e1);
       room = length-chunk i m (omega arith);
-      output = ltb-false (length o) 2047 (w .1);
+      output = enough-output m o s;
     }
-
-pub enough-memory : (m o : List ℕ) → (ltb (length m) 16384 || ltb (length o) 2047) ≡ false → 16384 ≤ length m
-enough-memory m o s = ltb-false (length m) 16384 (or-no (ltb (length m) 16384) (ltb (length o) 2047) s .0)
 
 -- the slot that a key is found in is open under that key
 pub found : (l : List Slot) (k : Key) (f : ℕ) (d : Slot) → length l ≡ 8 → firstAt (isKey k) l ≡ f → f < 8 → getD l f d .key ≡ k
@@ -161,13 +156,13 @@ earlier tb m t (part u p) e h = rw (e, lt-ltb t (tb .last) h)
 
 -- whatever comes, 7 and 8 go first
 module _ (tb : Table) (m o : List ℕ) (t : ℕ) (c : Call) where
-  pub gives-7 : (ltb (length m) 16384 || ltb (length o) 2047) ≡ true → Gives (record { answer = Outcome.Refused Refusal.NoRoom; table = tb }) m o o (step (state tb m) (lentCall m o c))
+  pub leaves-7 : (ltb (length m) 16384 || ltb (length o) 2047) ≡ true → Leaves (step (state tb m) (lentCall m o c)) (refused 7) tb m
   unfolding step lentCall untouched
-  gives-7 e = rw e record { answer = refl; table = refl; memory = refl; output = refl }
+  leaves-7 e = rw e record { reply = refl; table = refl; memory = refl }
 
-  pub gives-8 : (ltb (length m) 16384 || ltb (length o) 2047) ≡ false → At c t → t < tb .last → Gives (record { answer = Outcome.Refused Refusal.EarlierTime; table = tb }) m o o (step (state tb m) (lentCall m o c))
+  pub leaves-8 : (ltb (length m) 16384 || ltb (length o) 2047) ≡ false → At c t → t < tb .last → Leaves (step (state tb m) (lentCall m o c)) (refused 8) tb m
   unfolding lentCall untouched
-  gives-8 enough a h = rw (enough, earlier tb m t c a h) record { answer = refl; table = refl; memory = refl; output = refl }
+  leaves-8 enough a h = rw (enough, earlier tb m t c a h) record { reply = refl; table = refl; memory = refl }
 
 -- a call that brings no part: the time is taken, old slots are freed, and it is answered
 module _ (tb : Table) (m o : List ℕ) (t : ℕ) (enough : (ltb (length m) 16384 || ltb (length o) 2047) ≡ false) (late : tb .last ≤ t) (x : Table) (e : x ≡ withSlots tb t (expire t (tb .slots))) where
@@ -178,14 +173,6 @@ module _ (tb : Table) (m o : List ℕ) (t : ℕ) (enough : (ltb (length m) 16384
   pub leaves-other : (a : Reply (List ℕ)) → Leaves (step (state tb m) (lentCall m o (other t a))) a x m
   unfolding pass slotsAt
   leaves-other a = rw (others a) record { reply = refl; table = e; memory = refl }
-
-  pub gives-refusal : (r : Refusal) → Gives (record { answer = Outcome.Refused r; table = x }) m o o (step (state tb m) (lentCall m o (other t (refused (numberOf r)))))
-  unfolding pass slotsAt
-  gives-refusal r = rw (others (refused (numberOf r))) record { answer = refl; table = e; memory = refl; output = refl }
-
-  pub gives-datagram : (d o′ : List ℕ) → o′ ≡ put 0 d o → Gives (record { answer = Outcome.Out (length d); table = x }) m o o′ (step (state tb m) (lentCall m o (other t (out d))))
-  unfolding pass slotsAt
-  gives-datagram d o′ q = rw (others (out d)) record { answer = refl; table = e; memory = refl; output = q }
 
 -- a part
 module _ (tb : Table) (m o : List ℕ) (t : ℕ) (p : Part) where
@@ -222,26 +209,6 @@ module _ (tb : Table) (m o : List ℕ) (t : ℕ) (p : Part) where
       unfolding land
       leaves-land i n q e = rw e record { reply = refl; table = table-with i (q .slot); memory = refl }
 
-      gives-pass : (r : Refusal) → step (state tb m) (lentCall m o (part t p)) ≡ pass (state tb m) t (refused (numberOf r))
-          → Gives (record { answer = Outcome.Refused r; table = record { slots = x .slots; last = t; gateways = x .gateways } }) m o o (step (state tb m) (lentCall m o (part t p)))
-      unfolding pass
-      gives-pass r e = rw e record { answer = refl; table = table-is; memory = refl; output = refl }
-
-      gives-land : (i n : ℕ) (q : Put) (d : InSlot) (m′ o′ : List ℕ) → step (state tb m) (lentCall m o (part t p)) ≡ land (state tb m) t i n q → Lands d i m m′ o o′ q
-          → Gives (record { answer = d .outcome; table = record { slots = set (x .slots) i (d .slot); last = t; gateways = x .gateways } }) m′ o o′ (step (state tb m) (lentCall m o (part t p)))
-      unfolding land
-      gives-land i n q d m′ o′ e D = rw e record {
-        answer = D .answer;
-        table = rw (D .slot) (table-with i (q .slot));
-        memory = D .memory;
-        output = D .output;
-      }
-
-      pub gives-9 : isGate (owner (p .key)) (those present (x .gateways)) ≡ false
-          → Gives (record { answer = Outcome.Refused Refusal.NotGateway; table = record { slots = x .slots; last = t; gateways = x .gateways } }) m o o (step (state tb m) (lentCall m o (part t p)))
-      unfolding takePart
-      gives-9 h = gives-pass Refusal.NotGateway (timed ∙ rw (sym gates-are ∙ h))
-
       module _ (known : isGate (owner (p .key)) (those present (x .gateways)) ≡ true) where
         step-10 : fits p ≡ false → step (state tb m) (lentCall m o (part t p)) ≡ pass (state tb m) t (refused 10)
         unfolding takePart
@@ -249,10 +216,6 @@ module _ (tb : Table) (m o : List ℕ) (t : ℕ) (p : Part) where
 
         pub leaves-10 : fits p ≡ false → Leaves (step (state tb m) (lentCall m o (part t p))) (refused 10) (record { slots = x .slots; last = t; gateways = x .gateways }) m
         leaves-10 h = leaves-pass 10 (step-10 h)
-
-        pub gives-10 : fits p ≡ false
-            → Gives (record { answer = Outcome.Refused Refusal.BadPart; table = record { slots = x .slots; last = t; gateways = x .gateways } }) m o o (step (state tb m) (lentCall m o (part t p)))
-        gives-10 h = gives-pass Refusal.BadPart (step-10 h)
 
         module _ (good : fits p ≡ true) (f : ℕ) (at : firstAt (isKey (p .key)) (x .slots) ≡ f) where
           where-is : whereKey (p .key) t (state tb m) ≡ f
@@ -269,10 +232,6 @@ module _ (tb : Table) (m o : List ℕ) (t : ℕ) (p : Part) where
               → Leaves (step (state tb m) (lentCall m o (part t p))) (q .reply) (record { slots = set (x .slots) f (q .slot); last = t; gateways = x .gateways }) (splice m f (q .bytes))
           leaves-offer h d q e = leaves-land f 0 q (step-offer h d ∙ ap (land (state tb m) t f 0) (sym e))
 
-          pub gives-offer : f < 8 → (d : Slot) (r : InSlot) (m′ o′ : List ℕ) → Lands r f m m′ o o′ (offer (getD (x .slots) f d) (chunk f m) p)
-              → Gives (record { answer = r .outcome; table = record { slots = set (x .slots) f (r .slot); last = t; gateways = x .gateways } }) m′ o o′ (step (state tb m) (lentCall m o (part t p)))
-          gives-offer h d r m′ o′ D = gives-land f 0 (offer (getD (x .slots) f d) (chunk f m) p) r m′ o′ (step-offer h d) D
-
           module _ (none : 8 ≤ f) (low : ℕ) (opens : opening (owner (p .key)) (those present (x .gateways)) (x .slots) ≡ low) where
             step-open : low < 8 → step (state tb m) (lentCall m o (part t p)) ≡ land (state tb m) t low 1 (place (opened (p .key) t) (chunk low m) p)
             unfolding takePart openAt whereFree opening gatesOf
@@ -288,10 +247,6 @@ module _ (tb : Table) (m o : List ℕ) (t : ℕ) (p : Part) where
                 → Leaves (step (state tb m) (lentCall m o (part t p))) (q .reply) (record { slots = set (x .slots) low (q .slot); last = t; gateways = x .gateways }) (splice m low (q .bytes))
             leaves-open h q e = leaves-land low 1 q (step-open h ∙ ap (land (state tb m) t low 1) (sym e))
 
-            pub gives-open : low < 8 → (r : InSlot) (m′ o′ : List ℕ) → Lands r low m m′ o o′ (place (opened (p .key) t) (chunk low m) p)
-                → Gives (record { answer = r .outcome; table = record { slots = set (x .slots) low (r .slot); last = t; gateways = x .gateways } }) m′ o o′ (step (state tb m) (lentCall m o (part t p)))
-            gives-open h r m′ o′ D = gives-land low 1 (place (opened (p .key) t) (chunk low m) p) r m′ o′ (step-open h) D
-
             step-12 : 8 ≤ low → step (state tb m) (lentCall m o (part t p)) ≡ pass (state tb m) t (refused 12)
             unfolding takePart opening gatesOf free
             step-12 h = by-test (mayOpen (owner (p .key)) (those present (x .gateways)) (x .slots))
@@ -303,7 +258,3 @@ module _ (tb : Table) (m o : List ℕ) (t : ℕ) (p : Part) where
 
             pub leaves-12 : 8 ≤ low → Leaves (step (state tb m) (lentCall m o (part t p))) (refused 12) (record { slots = x .slots; last = t; gateways = x .gateways }) m
             leaves-12 h = leaves-pass 12 (step-12 h)
-
-            pub gives-12 : 8 ≤ low
-                → Gives (record { answer = Outcome.Refused Refusal.NoSlot; table = record { slots = x .slots; last = t; gateways = x .gateways } }) m o o (step (state tb m) (lentCall m o (part t p)))
-            gives-12 h = gives-pass Refusal.NoSlot (step-12 h)

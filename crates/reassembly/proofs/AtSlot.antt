@@ -78,9 +78,9 @@ module _ (s : Slot) (i t : ℕ) (p : Part) (m o : List ℕ) where
           unfolding opened
           finds-key = by-test (isKey (p .key) s) (λ k. rw (q, k) (isKey-key (p .key) s k)) (λ k. rw (q, k) refl)
 
-          pub at-slot : (r : InSlot) (m′ o′ : List ℕ) → Lands r i m m′ o o′ (offer z (chunk i m) (partOf (z .key) (p .unit) (p .elided) (p .bytes))) → Lands r i m m′ o o′ (takeAt s i t p m o)
+          pub at-slot : (r : InSlot) (m′ o′ : List ℕ) → Lands r i m m′ o o′ (offer z (chunk i m) (partOf (z .key) (p .unit) (p .sum) (p .bytes))) → Lands r i m m′ o o′ (takeAt s i t p m o)
           at-slot r m′ o′ L =
-              let M : Lands r i m m′ o o′ (offer z (chunk i m) p) = subst (λ k. Lands r i m m′ o o′ (offer z (chunk i m) (partOf k (p .unit) (p .elided) (p .bytes)))) finds-key L in
+              let M : Lands r i m m′ o o′ (offer z (chunk i m) p) = subst (λ k. Lands r i m m′ o o′ (offer z (chunk i m) (partOf k (p .unit) (p .sum) (p .bytes)))) finds-key L in
               by-test (isKey (p .key) s)
               (λ k.
               let e : z ≡ s = q ∙ rw k refl in

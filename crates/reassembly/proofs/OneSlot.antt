@@ -14,6 +14,7 @@ use borrow.Author.Tests.{eqb-true, eq-eqb, not-true}
 use Rattle.octets.specs.Read.{choose}
 use Rattle.marks.specs.Marks.{hasIn, fill, unpack}
 use Rattle.marks.proofs.Words.{length-fill, unpack-pack}
+use Rattle.expand.specs.declared.checksum.UdpSum.{UdpSum}
 use Rattle.expand.proofs.CopyLaws.{length-put}
 use Rattle.reassembly.specs.Lists.{sameList}
 use Rattle.reassembly.specs.Slots.{busy, opened}
@@ -52,8 +53,8 @@ pub record Holds (k : Key) (ps : List Part) (s : Slot) (b : List ℕ) : Type 0 w
   -- the memory has the parts' bytes at their place
   pub bytes : (p : Part) → In p ps → (x : ℕ) → Has p x → getD b x 0 ≡ getD (p .bytes) (x - p .unit * 8) 0
   -- the flag is that of the part at byte 0
-  pub flag : (p : Part) → In p ps → p .unit ≡ 0 → s .elided ≡ p .elided
-  pub flag-from : s .elided ≡ true → (p : Part) × In p ps × (p .unit ≡ 0)
+  pub flag : (p : Part) → In p ps → p .unit ≡ 0 → s .sum ≡ p .sum
+  pub flag-from : (s .sum .kind ≡ 0 → ⊥) → (p : Part) × In p ps × (p .unit ≡ 0)
 
 -- an opened slot holds nothing yet
 pub holds-nothing : (k : Key) (t : ℕ) (b : List ℕ) → length b ≡ 2048 → Holds k [] (opened k t) b
@@ -71,7 +72,7 @@ holds-nothing k t b h = record {
   began-only = λ i e. no-both (getD (unpack (replicate 4 0)) i false) e (none-marked i);
   bytes = λ p m. absurd m;
   flag = λ p m. absurd m;
-  flag-from = λ e. no-both false e refl;
+  flag-from = λ e. absurd (e refl);
 }
   where
     empty : length (unpack (replicate 4 0)) ≡ 256
@@ -349,7 +350,7 @@ module _ (k : Key) (ps : List Part) (s : Slot) (b : List ℕ) (P : Holds k ps s 
         (λ a. fill-after (q .unit) 1 (starts s) i (omega arith))
         (λ a. fill-before (q .unit) 1 (starts s) i a))
 
-    flag-is : taken s q .elided ≡ choose (eqb (q .unit) 0) (q .elided) (s .elided)
+    flag-is : taken s q .sum ≡ choose (eqb (q .unit) 0) (q .sum) (s .sum)
     unfolding takenIn
     flag-is = refl
 
@@ -440,22 +441,21 @@ module _ (k : Key) (ps : List Part) (s : Slot) (b : List ℕ) (P : Holds k ps s 
             let h : HasUnit p (q .unit) = (omega arith, omega (arith, hp .1)) in
             clear-at (q .unit) q-first (P .marked p m (q .unit) h)
 
-        flag′ : (p : Part) → In p (q ∷ ps) → p .unit ≡ 0 → taken s q .elided ≡ p .elided
+        flag′ : (p : Part) → In p (q ∷ ps) → p .unit ≡ 0 → taken s q .sum ≡ p .sum
         flag′ p (inl e) z =
             let qz : q .unit ≡ 0 = rw e at z in
-            let w : q .elided ≡ p .elided = sym (ap (λ (y : Part). y .elided) e) in
+            let w : q .sum ≡ p .sum = sym (ap (λ (y : Part). y .sum) e) in
             flag-is ∙ rw (eq-eqb (q .unit) 0 qz) w
         flag′ p (inr m) z = by-test (eqb (q .unit) 0)
             (λ y. absurd (other-place p m z (eqb-true (q .unit) 0 y)))
             (λ y. flag-is ∙ rw y (P .flag p m z))
 
-        flag-from′ : taken s q .elided ≡ true → (p : Part) × In p (q ∷ ps) × (p .unit ≡ 0)
+        flag-from′ : (taken s q .sum .kind ≡ 0 → ⊥) → (p : Part) × In p (q ∷ ps) × (p .unit ≡ 0)
         flag-from′ e = by-test (eqb (q .unit) 0)
             (λ y. (q, inl refl, eqb-true (q .unit) 0 y))
             (λ y.
-            let f : choose (eqb (q .unit) 0) (q .elided) (s .elided) ≡ true = sym flag-is ∙ e in
-            let g : s .elided ≡ true = rw y at f in
-            let w = P .flag-from g in
+            let f : taken s q .sum ≡ s .sum = flag-is ∙ rw y refl in
+            let w = P .flag-from (λ z. e (ap (λ (m : UdpSum). m .kind) f ∙ z)) in
             (w .0, inr (w .1), w .2))
 
   -- ---- `full` is "full cover"

@@ -10,7 +10,7 @@ use lib.ListN.{length, getD, set, take, replicate, length-replicate}
 use lib.Seq.{getD-set-same, getD-set-other, getD-take, length-take-le}
 use Rattle.reassembly.specs.Lists.{count}
 use Rattle.reassembly.specs.Slots.{sameKey, freeSlot, opened, isKey, expired, expire1, expire}
-use Rattle.reassembly.specs.Parts.{Part, Reply, kept, out, refused, fits, repeats, touches, takenIn, taken, written, full, finish, Put, place, offer}
+use Rattle.reassembly.specs.Parts.{Part, Reply, kept, out, refused, fits, repeats, touches, takenIn, taken, written, full, finish, handed, Put, place, offer}
 use Rattle.reassembly.specs.Table.{Call, short, other, part, State, Result, chunk, splice, withSlots, untouched, slotsAt, pass, land, offerAt, openAt, step, next, run, note, takenSince}
 use Rattle.reassembly.specs.Fresh.{fresh, begun}
 use Rattle.reassembly.specs.declared.slot.Source.{Source}
@@ -20,7 +20,7 @@ use Rattle.reassembly.proofs.Tests.{no-both, by-test, not-true-false}
 use Rattle.reassembly.proofs.Lists.{count-at, count-replicate, firstAt-only}
 use Rattle.reassembly.proofs.Slots.{sameKey-eq, sameKey-refl}
 use Rattle.reassembly.proofs.Gateways.{isKey-key, isKey-of, freeSlot-key, getD-expire, expire1-young, After, freed, stays}
-use Rattle.reassembly.proofs.Parts.{place-length, offer-length, offer-repeat, offer-clash, offer-clear}
+use Rattle.reassembly.proofs.Parts.{handed-out, place-length, offer-length, offer-repeat, offer-clash, offer-clear}
 use Rattle.reassembly.proofs.Memory.{chunk-same, chunk-other}
 use Rattle.reassembly.proofs.Runs.{offer-after, place-after, Good, good-at, Offered, Opens, Did, lacking, stale, passed, offered, opens, Says, step-did, did-good, Holding, chunk-len, len-at}
 use Rattle.reassembly.specs.Cover.{MadeOf}
@@ -247,14 +247,15 @@ placed-made k h s b p d H e f c sk a = by-test (full (taken s p))
     let H′ = taking k h s b H p e f c in
     let tk : (taken s p) .key ≡ k = unfold takenIn in sk in
     let kz : (taken s p) .key .size ≡ k .size = ap (λ (z : Key). z .size) tk in
-    let y : out (finish ((taken s p) .elided) (take ((taken s p) .key .size) (written b p))) ≡ out d = rw x at a in
-    let y′ : d ≡ finish ((taken s p) .elided) (take ((taken s p) .key .size) (written b p)) = cc in
+    let y : handed ((taken s p) .sum) (take ((taken s p) .key .size) (written b p)) ≡ out d = rw x at a in
+    let y′ = handed-out ((taken s p) .sum) (take ((taken s p) .key .size) (written b p)) d y in
     let F = fit p f in
     let ps : p .key .size ≡ k .size = ap (λ (z : Key). z .size) e in
     record {
-      elided = (taken s p) .elided;
+      sum = (taken s p) .sum;
       d₀ = take ((taken s p) .key .size) (written b p);
-      made = y′;
+      made = y′ .1;
+      right = y′ .0;
       sized = length-take-le ((taken s p) .key .size) (written b p) (omega (arith, H′ .bytes-len, F .small)) ∙ kz;
       bounded = omega (arith, F .small);
       each = λ i hi.
@@ -265,7 +266,7 @@ placed-made k h s b p d H e f c sk a = by-test (full (taken s p))
             w .2,
             getD-take ((taken s p) .key .size) (written b p) i 0 (omega arith) ∙ H′ .bytes (w .0) (w .1) i (w .2),
           );
-      when = λ el. let w = H′ .flag-from el in (w .0, w .1, w .2, sym (H′ .flag (w .0) (w .1) (w .2)) ∙ el);
+      when = λ el. let w = H′ .flag-from el in (w .0, w .1, w .2, sym (H′ .flag (w .0) (w .1) (w .2)));
     })
     (λ x.
     let y : kept ≡ out d = rw x at a in

@@ -26,6 +26,7 @@ use Rattle.reassembly.specs.declared.table.Received.{Received}
 use Rattle.reassembly.specs.declared.table.Listed.{Listed}
 use Rattle.reassembly.proofs.Lists.{firstAt-found}
 use Rattle.reassembly.proofs.Gateways.{idle, free-for-idle, mayOpen-none, mayOpen-rule, Sound}
+use Rattle.expand.specs.Sum.{wasElided}
 use Rattle.reassembly.proofs.Parts.{finish-byte}
 use Rattle.reassembly.proofs.Origin.{did-made, run-told, fresh-told, taken-snoc}
 use Rattle.reassembly.proofs.Runs.{Good, good-at, step-did, fresh-good, fresh-free, run-good, run-count}
@@ -68,12 +69,12 @@ module _ (gs : List Source) (m : List ℕ) (W : Gateways gs) (h : 16384 ≤ leng
       rw (taken-snoc (p .key) cs (part t p) (begun gs m) [])
       (did-made (p .key) σ (takenSince (p .key) (begun gs m) cs []) d good (step-did σ (part t p) good) T refl a)
 
--- byte by byte: of a datagram made of the parts hs each byte but a computed checksum's, at 46 and 47, is that of one of them at its place
-pub each-byte : (k : Key) (hs : List Part) (d : List ℕ) (M : MadeOf k hs d) (x : ℕ) → x < k .size → (M .elided ≡ true → (x < 46) ⊎ (48 ≤ x))
+-- byte by byte: of a datagram made of the parts hs each byte but a computed checksum's is that of one of them at its place
+pub each-byte : (k : Key) (hs : List Part) (d : List ℕ) (M : MadeOf k hs d) (x : ℕ) → x < k .size → (wasElided (M .sum) ≡ true → (x < M .sum .udp + 6) ⊎ (M .sum .udp + 8 ≤ x))
     → (q : Part) × In q hs × (q .key ≡ k) × Has q x × (getD d x 0 ≡ getD (q .bytes) (x - q .unit * 8) 0)
 each-byte k hs d M x l a =
     let w = M .each x l in
-    (w .0, w .1, w .2, w .3, ap (λ (z : List ℕ). getD z x 0) (M .made) ∙ finish-byte (M .elided) (M .d₀) x a ∙ w .4)
+    (w .0, w .1, w .2, w .3, ap (λ (z : List ℕ). getD z x 0) (M .made) ∙ finish-byte (M .sum) (M .d₀) x a ∙ w .4)
 
 -- K12: a slot opened at 0 is held at 59,999, gone at 60,000
 pub k12-held : (k : Key) → expired 59999 (opened k 0) ≡ false

@@ -8,16 +8,18 @@ use lib.ListN.{length, take}
 use lib.Seq.{length-take-le}
 use lib.Dec.{ltb, leb}
 use borrow.Author.Tests.{ltb-true}
-use Rattle.expand.proofs.ExpandLaws.{length-summed}
+use Rattle.expand.specs.Sum.{holds}
+use Rattle.expand.specs.declared.checksum.UdpSum.{UdpSum}
 use Rattle.expand.proofs.CopyLaws.{length-put}
 use Rattle.reassembly.specs.Lists.{count}
 use Rattle.reassembly.specs.Slots.{owner, freeSlot, opened, isFree, isKey, gatesOf, isGate, free, mayOpen}
 use Rattle.reassembly.specs.Parts as Parts
-use Rattle.reassembly.specs.Parts.{Part, Reply, kept, out, fits, takenIn, full, finish, place, offer}
+use Rattle.reassembly.specs.Parts.{Part, Reply, kept, out, fits, takenIn, full, finish, handed, place, offer}
 use Rattle.reassembly.specs.Table.{Call, short, other, part, State, chunk, untouched, pass, land, offerAt, openAt, slotsAt, whereKey, whereFree, takePart, stays, takeAt, step, lentCall}
 use Rattle.reassembly.specs.declared.slot.Slot.{Slot}
 use Rattle.reassembly.specs.declared.table.Table.{Table}
 use Rattle.reassembly.proofs.Tests.{by-test}
+use Rattle.reassembly.proofs.Parts.{length-finish}
 use Rattle.reassembly.proofs.Lists.{firstAt-found}
 use Rattle.reassembly.proofs.Gateways.{isKey-key, length-expire, mayOpen-rule}
 use Rattle.reassembly.proofs.Memory.{length-chunk}
@@ -30,9 +32,9 @@ Sized (out d) = (40 ≤ length d) × (length d ≤ 2047)
 Sized (Parts.refused n) = Unit {0}
 
 -- ---- from a slot
-length-finish : (e : Bool) (d : List ℕ) → length (finish e d) ≡ length d
-unfolding finish
-length-finish e d = by-test (e && leb 48 (length d)) (λ h. rw h (length-summed d)) (λ h. rw h refl)
+handed-sized : (m : UdpSum) (d : List ℕ) → 40 ≤ length d → length d ≤ 2047 → Sized (handed m d)
+unfolding handed
+handed-sized m d a b = by-test (holds m d) (λ h. rw h (rw (length-finish m d) a, rw (length-finish m d) b)) (λ h. rw h tt)
 
 module _ (m : List ℕ) (enough : 16384 ≤ length m) (p : Part) (good : fits p ≡ true) (i : ℕ) (low : i < 8) (s : Slot) (own : s .key ≡ p .key) where
   place-sized : Sized (place s (chunk i m) p .reply)
@@ -42,8 +44,8 @@ module _ (m : List ℕ) (enough : 16384 ≤ length m) (p : Part) (good : fits p 
       let b = Parts.written (chunk i m) p in
       let room : length b ≡ 2048 = length-put (p .unit * 8) (p .bytes) (chunk i m) ∙ length-chunk i m (omega arith) in
       let size : s .key .size ≡ p .key .size = ap (λ k. k .size) own in
-      let e = length-finish (Parts.taken s p .elided) (take (s .key .size) b) ∙ length-take-le (s .key .size) b (omega arith) in
-      by-test (full (Parts.taken s p)) (λ f. rw f (omega (arith, e), omega (arith, e))) (λ f. rw f tt)
+      let e : length (take (s .key .size) b) ≡ s .key .size = length-take-le (s .key .size) b (omega arith) in
+      by-test (full (Parts.taken s p)) (λ f. rw f (handed-sized (Parts.taken s p .sum) (take (s .key .size) b) (omega (arith, e)) (omega (arith, e)))) (λ f. rw f tt)
 
   offer-sized : Sized (offer s (chunk i m) p .reply)
   unfolding offer

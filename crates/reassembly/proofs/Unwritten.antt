@@ -1,23 +1,25 @@
--- "A refusal writes no lent byte": of every call, on every table and memory.
+-- "No refusal but 17 writes a lent byte": of every call, on every table and memory.
 use Prim.Native.Nat.{ℕ, _*_}
 use native.Mathlib.Omega.{arith}
-use mathlib.Core.Path.{_≡_, refl, ap, _∙_}
+use mathlib.Core.Path.{_≡_, refl, sym, ap, _∙_}
 use mathlib.Core.Bool.{Bool, true, false}
 use mathlib.Core.List.{List}
 use lib.ListN.{getD}
 use lib.Dec.{ltb}
 use Rattle.octets.specs.Read.{choose}
+use Rattle.expand.specs.Sum.{holds}
+use Rattle.expand.specs.declared.checksum.UdpSum.{UdpSum}
 use Rattle.reassembly.specs.Slots.{owner, freeSlot, opened, gatesOf, isGate, mayOpen}
-use Rattle.reassembly.specs.Parts.{Part, Reply, kept, out, refused, fits, taken, full, Put, place, offer}
+use Rattle.reassembly.specs.Parts.{Part, Reply, kept, out, refused, fits, taken, full, handed, Put, place, offer}
 use Rattle.reassembly.specs.Table.{Call, short, other, part, State, Result, chunk, splice, untouched, slotsAt, pass, land, whereKey, whereFree, offerAt, openAt, takePart, step}
 use Rattle.reassembly.specs.declared.slot.Slot.{Slot}
 use Rattle.reassembly.proofs.Tests.{by-test}
 use Rattle.reassembly.proofs.AtSlot.{put-back}
 use Rattle.reassembly.proofs.Origin.{OfferCase, repeated, clashed, placed, offer-case}
 
--- the lent memory after a refusal is the lent memory before it
+-- the lent memory after a refusal other than 17 is the lent memory before it
 abbrev pub Unwritten : State → Result → Type 0
-Unwritten σ r = (n : ℕ) → r .reply ≡ refused n → r .state .mem ≡ σ .mem
+Unwritten σ r = (n : ℕ) → r .reply ≡ refused n → (n ≡ 17 → ⊥) → r .state .mem ≡ σ .mem
 
 abbrev kindOf : Reply (List ℕ) → ℕ
 kindOf kept = 0
@@ -38,34 +40,44 @@ splice-back : (m : List ℕ) (i : ℕ) → splice m i (chunk i m) ≡ m
 unfolding splice chunk
 splice-back m i = put-back 2048 (i * 2048) m
 
-place-never : {X : Type 0} (s : Slot) (b : List ℕ) (p : Part) (n : ℕ) → (place s b p) .reply ≡ refused n → X
-unfolding place
-place-never s b p n e = by-test (full (taken s p)) (λ x. not-out _ n (rw x at e)) (λ x. not-kept n (rw x at e))
+abbrev numberOr : Reply (List ℕ) → ℕ
+numberOr kept = 0
+numberOr (out d) = 0
+numberOr (refused n) = n
 
-offer-bytes : (s : Slot) (b : List ℕ) (p : Part) (n : ℕ) → (offer s b p) .reply ≡ refused n → (offer s b p) .bytes ≡ b
-offer-bytes s b p n e = go (offer-case s b p)
+-- a whole datagram is refused with 17 alone
+handed-never : {X : Type 0} (m : UdpSum) (d : List ℕ) (n : ℕ) → handed m d ≡ refused n → (n ≡ 17 → ⊥) → X
+unfolding handed
+handed-never m d n e k = by-test (holds m d) (λ h. not-out _ n (rw h at e)) (λ h. let z : refused 17 ≡ refused n = rw h at e in absurd (k (sym (ap numberOr z))))
+
+place-never : {X : Type 0} (s : Slot) (b : List ℕ) (p : Part) (n : ℕ) → (place s b p) .reply ≡ refused n → (n ≡ 17 → ⊥) → X
+unfolding place
+place-never s b p n e k = by-test (full (taken s p)) (λ x. handed-never _ _ n (rw x at e) k) (λ x. not-kept n (rw x at e))
+
+offer-bytes : (s : Slot) (b : List ℕ) (p : Part) (n : ℕ) → (offer s b p) .reply ≡ refused n → (n ≡ 17 → ⊥) → (offer s b p) .bytes ≡ b
+offer-bytes s b p n e k = go (offer-case s b p)
   where
     go : OfferCase s b p → (offer s b p) .bytes ≡ b
     go (repeated q) = ap (λ (z : Put). z .bytes) q
     go (clashed q) = ap (λ (z : Put). z .bytes) q
-    go (placed c q) = place-never s b p n (rw q at e)
+    go (placed c q) = place-never s b p n (rw q at e) k
 
 offer-unwritten : (σ : State) (t : ℕ) (p : Part) (i : ℕ) → Unwritten σ (offerAt σ t p i)
 unfolding offerAt land
-offer-unwritten σ t p i n e =
-    ap (splice (σ .mem) i) (offer-bytes (getD (slotsAt t σ) i freeSlot) (chunk i (σ .mem)) p n e) ∙ splice-back (σ .mem) i
+offer-unwritten σ t p i n e k =
+    ap (splice (σ .mem) i) (offer-bytes (getD (slotsAt t σ) i freeSlot) (chunk i (σ .mem)) p n e k) ∙ splice-back (σ .mem) i
 
 open-unwritten : (σ : State) (t : ℕ) (p : Part) (i : ℕ) → Unwritten σ (openAt σ t p i)
 unfolding openAt land
-open-unwritten σ t p i n e = place-never (opened (p .key) t) (chunk i (σ .mem)) p n e
+open-unwritten σ t p i n e k = place-never (opened (p .key) t) (chunk i (σ .mem)) p n e k
 
 pass-unwritten : (σ : State) (t : ℕ) (a : Reply (List ℕ)) → Unwritten σ (pass σ t a)
 unfolding pass
-pass-unwritten σ t a n e = refl
+pass-unwritten σ t a n e k = refl
 
 untouched-unwritten : (σ : State) (r : ℕ) → Unwritten σ (untouched σ r)
 unfolding untouched
-untouched-unwritten σ r n e = refl
+untouched-unwritten σ r n e k = refl
 
 part-unwritten : (σ : State) (t : ℕ) (p : Part) → Unwritten σ (takePart σ t p)
 unfolding takePart

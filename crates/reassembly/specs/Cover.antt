@@ -2,9 +2,11 @@
 use Prim.Native.Nat.{ℕ, _+_, _*_, _-_, _≤_, _<_}
 use mathlib.Core.Path.{_≡_}
 use mathlib.Core.Logic.{_⊎_}
-use mathlib.Core.Bool.{Bool, true}
+use mathlib.Core.Bool.{true}
 use mathlib.Core.List.{List, [], _∷_}
 use lib.ListN.{length, getD}
+use Rattle.expand.specs.Sum.{holds}
+use Rattle.expand.specs.declared.checksum.UdpSum.{UdpSum}
 use Rattle.reassembly.specs.Parts.{Part, finish}
 use Rattle.reassembly.specs.declared.slot.Key.{Key}
 
@@ -22,12 +24,13 @@ abbrev pub Covers : ℕ → List Part → Type 0
 Covers size ps = (x : ℕ) → x < size → (p : Part) × In p ps × Has p x
 
 -- d was put together from the parts hs, all under k: from d₀, of which every byte is the byte at its place of one of them, with the checksum
--- computed where the part at byte 0 had it elided
+-- computed where the part at byte 0 had it elided, and right where that part carried one that is tested
 pub record MadeOf (k : Key) (hs : List Part) (d : List ℕ) : Type 0 where
-  pub elided : Bool
+  pub sum : UdpSum
   pub d₀ : List ℕ
-  pub made : d ≡ finish elided d₀
+  pub made : d ≡ finish sum d₀
+  pub right : holds sum d₀ ≡ true
   pub sized : length d₀ ≡ k .size
   pub bounded : k .size ≤ 2047
   pub each : (x : ℕ) → x < k .size → (q : Part) × In q hs × (q .key ≡ k) × Has q x × (getD d₀ x 0 ≡ getD (q .bytes) (x - q .unit * 8) 0)
-  pub when : elided ≡ true → (q : Part) × In q hs × (q .unit ≡ 0) × (q .elided ≡ true)
+  pub when : (sum .kind ≡ 0 → ⊥) → (q : Part) × In q hs × (q .unit ≡ 0) × (q .sum ≡ sum)

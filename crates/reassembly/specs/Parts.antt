@@ -8,7 +8,8 @@ use lib.Dec.{eqb, leb}
 use Rattle.octets.specs.Read.{choose}
 use Rattle.octets.specs.Write.{put}
 use Rattle.octets.specs.Refusal.{numberOf}
-use Rattle.expand.specs.Sum.{summed}
+use Rattle.expand.specs.Sum.{summedBy, holds}
+use Rattle.expand.specs.declared.checksum.UdpSum.{UdpSum}
 use Rattle.marks.specs.Marks.{hasIn, fill, unpack, pack}
 use Rattle.reassembly.specs.Lists.{sameList}
 use Rattle.reassembly.specs.Slots.{freeSlot}
@@ -17,15 +18,15 @@ use Rattle.reassembly.specs.declared.slot.Slot.{Slot}
 use Rattle.reassembly.specs.declared.part.Outcome.{Outcome}
 use Rattle.reassembly.specs.declared.part.InSlot.{InSlot}
 
--- A fragment: the first part counts as expanded, from byte 0. Its first byte is byte unit * 8. `elided` is read at unit 0 only.
+-- A fragment: the first part counts as expanded, from byte 0. Its first byte is byte unit * 8. `sum` is read at unit 0 only.
 pub record Part : Type 0 where
   pub key : Key
   pub unit : ℕ
   pub bytes : List ℕ
-  pub elided : Bool
+  pub sum : UdpSum
 
-abbrev pub partOf : Key → ℕ → Bool → List ℕ → Part
-partOf k u e bs = record { key = k; unit = u; bytes = bs; elided = e }
+abbrev pub partOf : Key → ℕ → UdpSum → List ℕ → Part
+partOf k u m bs = record { key = k; unit = u; bytes = bs; sum = m }
 
 -- what a call says: that the part was kept, a datagram that is handed out, or a refusal's number
 pub data Reply (A : Type 0) : Type 0 where
@@ -82,19 +83,19 @@ repeats s b p = repeatsIn s b (p .unit) (p .bytes)
 abbrev pub touches : Slot → Part → Bool
 touches s p = hasIn true (unpack (s .covered)) (p .unit) (units (length (p .bytes)))
 
--- the record with a part of n bytes from unit u on taken; whether the checksum was elided is remembered when the part at byte 0 is
-unfoldable pub takenIn : Slot → ℕ → Bool → ℕ → Slot
-takenIn s u elided n = record {
+-- the record with a part of n bytes from unit u on taken; what is to be known of the checksum is remembered when the part at byte 0 is
+unfoldable pub takenIn : Slot → ℕ → UdpSum → ℕ → Slot
+takenIn s u m n = record {
   key = s .key;
   since = s .since;
   covered = pack (fill u (units n) (unpack (s .covered)));
   starts = pack (fill u 1 (unpack (s .starts)));
   live = s .live;
-  elided = choose (eqb u 0) elided (s .elided);
+  sum = choose (eqb u 0) m (s .sum);
 }
 
 abbrev pub taken : Slot → Part → Slot
-taken s p = takenIn s (p .unit) (p .elided) (length (p .bytes))
+taken s p = takenIn s (p .unit) (p .sum) (length (p .bytes))
 
 -- the slot's bytes with the part's at their place
 abbrev pub written : List ℕ → Part → List ℕ
@@ -103,9 +104,13 @@ written b p = put (p .unit * 8) (p .bytes) b
 unfoldable pub full : Slot → Bool
 full s = not (hasIn false (unpack (s .covered)) 0 (units (s .key .size)))
 
--- the datagram handed out: an elided checksum is computed, in a datagram long enough to have one
-unfoldable pub finish : Bool → List ℕ → List ℕ
-finish e d = choose (e && leb 48 (length d)) (summed d) d
+-- the datagram handed out: an elided checksum is computed
+abbrev pub finish : UdpSum → List ℕ → List ℕ
+finish m d = summedBy m d
+
+-- the change requests, item 7: a carried checksum is tested first, and where it does not hold nothing is handed out, 17
+unfoldable pub handed : UdpSum → List ℕ → Reply (List ℕ)
+handed m d = choose (holds m d) (out (finish m d)) (refused 17)
 
 -- what a part comes to in a slot: the answer, the record, the slot's bytes, how many slots ended, and whether it was taken
 pub record Put : Type 0 where
@@ -115,11 +120,11 @@ pub record Put : Type 0 where
   pub ended : ℕ
   pub took : Bool
 
--- a part that touches nothing taken; full cover hands the datagram out and frees the slot
+-- a part that touches nothing taken; full cover hands the datagram out, or refuses it, and frees the slot
 unfoldable pub place : Slot → List ℕ → Part → Put
 place s b p =
     choose (full (taken s p))
-    (record { reply = out (finish (taken s p .elided) (take (taken s p .key .size) (written b p))); slot = freeSlot; bytes = written b p; ended = 1; took = true })
+    (record { reply = handed (taken s p .sum) (take (taken s p .key .size) (written b p)); slot = freeSlot; bytes = written b p; ended = 1; took = true })
     (record { reply = kept; slot = taken s p; bytes = written b p; ended = 0; took = true })
 
 -- a part under the slot's key: a repeat is kept, nothing written; any other that touches a taken byte is refused, 11, and the slot freed
@@ -137,6 +142,11 @@ pub record Placeable (size u : ℕ) (part b o : List ℕ) : Type 0 where
   pub small : size ≤ 2047
   pub room : length b ≡ 2048
   pub output : 2047 ≤ length o
+
+-- the answer r and the output o, o₀ before, are as a says
+pub record Hands (r : Outcome) (o₀ o : List ℕ) (a : Reply (List ℕ)) : Type 0 where
+  pub answer : ofOutcome r ≡ told a
+  pub output : o ≡ outputAfter a o₀
 
 -- the answer r, the slot's bytes b and the output o, o₀ before, are as q says
 pub record Does (r : InSlot) (b o₀ o : List ℕ) (q : Put) : Type 0 where

@@ -9,6 +9,7 @@ use Rattle.ieee802154.specs.declared.addr.Address.{Address}
 use Rattle.ieee802154.specs.declared.addr.Address.the-variants.{Absent, Short, Extended}
 use Rattle.ieee802154.specs.declared.addr.PanField.{PanField}
 use Rattle.ieee802154.specs.Addressing.{panNumber}
+use Rattle.expand.specs.Sum.{noSum}
 use Rattle.reassembly.specs.Lists.{count, firstAt, those}
 use Rattle.reassembly.specs.declared.slot.Node.{Node}
 use Rattle.reassembly.specs.declared.slot.Source.{Source}
@@ -61,11 +62,11 @@ busy s = eqb (s .live) 1
 
 -- a free slot has this one value
 unfoldable pub freeSlot : Slot
-freeSlot = record { key = noKey; since = 0; covered = replicate 4 0; starts = replicate 4 0; live = 0; elided = false }
+freeSlot = record { key = noKey; since = 0; covered = replicate 4 0; starts = replicate 4 0; live = 0; sum = noSum }
 
 -- a slot as it is opened under k at t
 unfoldable pub opened : Key → ℕ → Slot
-opened k t = record { key = k; since = t; covered = replicate 4 0; starts = replicate 4 0; live = 1; elided = false }
+opened k t = record { key = k; since = t; covered = replicate 4 0; starts = replicate 4 0; live = 1; sum = noSum }
 
 unfoldable pub isFree : Slot → Bool
 isFree s = not (busy s)

@@ -125,16 +125,6 @@ step σ (part t p) = choose (ltb t (σ .table .last)) (untouched σ 8) (takePart
 unfoldable pub lentCall : List ℕ → List ℕ → Call → Call
 lentCall m o c = choose (ltb (length m) 16384 || ltb (length o) 2047) short c
 
--- a part, a whole datagram, a refusal
-abbrev pub partCall : List ℕ → List ℕ → ℕ → Part → Call
-partCall m o t p = lentCall m o (part t p)
-
-abbrev pub wholeCall : List ℕ → List ℕ → ℕ → List ℕ → Call
-wholeCall m o t d = lentCall m o (other t (out d))
-
-abbrev pub refusedCall : List ℕ → List ℕ → ℕ → ℕ → Call
-refusedCall m o t n = lentCall m o (other t (refused n))
-
 -- ---- what the contracts say
 -- the answer r, the lent memory m and the output o, m₀ and o₀ before, are as q says of slot i
 pub record Lands (r : InSlot) (i : ℕ) (m₀ m o₀ o : List ℕ) (q : Put) : Type 0 where

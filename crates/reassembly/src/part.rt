@@ -8,8 +8,10 @@ ghost use Rattle.octets.specs.Read.{choose};
 ghost use Rattle.octets.specs.Write.{put};
 ghost use Rattle.marks.specs.Marks.{unpack, hasIn};
 ghost use Rattle.reassembly.specs.Lists.{sameList};
-ghost use Rattle.reassembly.specs.Parts.{partOf, units, fitsIn, spans, repeatsIn, takenIn, full, finish, place, offer, Placeable, Does};
+ghost use Rattle.reassembly.specs.Parts.{partOf, units, fitsIn, spans, repeatsIn, takenIn, full, handed, Hands, place, offer, Placeable, Does};
 use super::slot::Slot;
+use expand::checksum::UdpSum;
+use expand::checksum::is_right;
 use expand::checksum::put_checksum;
 use expand::copy::put_part;
 use octets::refusal::Refusal;
@@ -125,17 +127,17 @@ fn is_touching(covered: [u64; 4], offset: Units, n: usize) -> bool
     marks::has_mark(covered, true, u, u + units_of(n))
 }
 
-// Whether the checksum was elided is remembered when the part at byte 0 is taken.
-fn remembered(offset: Units, elided: bool, was: bool) -> bool
-    ensures { λ r. ⌜ r ≡ choose (eqb (offset .0) 0) elided was ⌝ }
+// What is to be known of the checksum is remembered when the part at byte 0 is taken.
+fn remembered(offset: Units, sum: UdpSum, was: UdpSum) -> UdpSum
+    ensures { λ r. ⌜ r ≡ choose (eqb (offset .0) 0) sum was ⌝ }
 {
-    if offset.0 == 0 { elided } else { was }
+    if offset.0 == 0 { sum } else { was }
 }
 
 // The record with a part of n bytes taken.
-fn with_part(s: Slot, offset: Units, elided: bool, n: usize) -> Slot
+fn with_part(s: Slot, offset: Units, sum: UdpSum, n: usize) -> Slot
     requires { ⌜ n ≤ 2047 ⌝ }
-    ensures { λ r. ⌜ r ≡ takenIn s (offset .0) elided n ⌝ }
+    ensures { λ r. ⌜ r ≡ takenIn s (offset .0) sum n ⌝ }
 {
     let u = offset.0 as usize;
     let mut f = s;
@@ -145,7 +147,9 @@ fn with_part(s: Slot, offset: Units, elided: bool, n: usize) -> Slot
     let starts = f.starts;
     let b = marks::mark(starts, u, u + 1);
     f.starts = b;
-    f.elided = remembered(offset, elided, s.elided);
+    let was = s.sum;
+    let m = remembered(offset, sum, was);
+    f.sum = m;
     f
 }
 
@@ -158,37 +162,40 @@ fn is_full(s: Slot) -> bool
     !marks::has_mark(covered, false, 0, units_of(k.size as usize))
 }
 
-// The datagram goes to the output's start, its checksum computed where it was elided.
-fn hand_out(room: &[u8], size: usize, elided: bool, out: &mut [u8])
+// The datagram goes to the output's start, its checksum computed where it was elided. One that was carried is tested first: where it does not
+// hold nothing is handed out, 17.
+fn hand_out(room: &[u8], size: usize, sum: UdpSum, out: &mut [u8]) -> Outcome
     requires { ⌜ (size ≤ 2047) × (size ≤ length (now room)) × (size ≤ length (now out)) ⌝ }
-    ensures { λ _. ⌜ now (out .exit) ≡ put 0 (finish elided (take size (now (room .entry)))) (now (out .entry)) ⌝ }
+    ensures { λ r. ⌜ Hands r (now (out .entry)) (now (out .exit)) (handed sum (take size (now (room .entry)))) ⌝ }
 {
-    put_part(out, 0, room, 0, size);
-    if elided {
-        put_checksum(out, size);
+    if is_right(room, size, sum) {
+        put_part(out, 0, room, 0, size);
+        put_checksum(out, size, sum);
+        return Outcome::Out(size);
     }
+    Outcome::Refused(Refusal::BadChecksum)
 }
 
 // Takes a part that touches nothing taken: its bytes are written at their place and its units marked. Full cover hands the
 // datagram out and frees the slot.
-pub(crate) fn place_part(
+fn place_part(
     s: Slot,
     room: &mut [u8],
     offset: Units,
-    elided: bool,
+    sum: UdpSum,
     part: &[u8],
     out: &mut [u8],
 ) -> InSlot
     requires { ⌜ Placeable (s .key .size) (offset .0) (now part) (now room) (now out) ⌝ }
-    ensures { λ r. ⌜ Does r (now (room .exit)) (now (out .entry)) (now (out .exit)) (place s (now (room .entry)) (partOf (s .key) (offset .0) elided (now (part .entry)))) ⌝ }
+    ensures { λ r. ⌜ Does r (now (room .exit)) (now (out .entry)) (now (out .exit)) (place s (now (room .entry)) (partOf (s .key) (offset .0) sum (now (part .entry)))) ⌝ }
 {
     put_part(room, offset.bytes(), part, 0, part.len());
-    let slot = with_part(s, offset, elided, part.len());
+    let slot = with_part(s, offset, sum, part.len());
     if is_full(slot) {
         let k = slot.key;
         let size = k.size as usize;
-        hand_out(room, size, slot.elided, out);
-        let outcome = Outcome::Out(size);
+        let m = slot.sum;
+        let outcome = hand_out(room, size, m, out);
         let slot = Slot::free();
         return InSlot { outcome, slot };
     }
@@ -201,12 +208,12 @@ pub(crate) fn offer_part(
     s: Slot,
     room: &mut [u8],
     offset: Units,
-    elided: bool,
+    sum: UdpSum,
     part: &[u8],
     out: &mut [u8],
 ) -> InSlot
     requires { ⌜ Placeable (s .key .size) (offset .0) (now part) (now room) (now out) ⌝ }
-    ensures { λ r. ⌜ Does r (now (room .exit)) (now (out .entry)) (now (out .exit)) (offer s (now (room .entry)) (partOf (s .key) (offset .0) elided (now (part .entry)))) ⌝ }
+    ensures { λ r. ⌜ Does r (now (room .exit)) (now (out .entry)) (now (out .exit)) (offer s (now (room .entry)) (partOf (s .key) (offset .0) sum (now (part .entry)))) ⌝ }
 {
     if is_repeat(s, room, offset, part) {
         let slot = s;
@@ -219,5 +226,5 @@ pub(crate) fn offer_part(
         let outcome = Outcome::Refused(Refusal::Clash);
         return InSlot { outcome, slot };
     }
-    place_part(s, room, offset, elided, part, out)
+    place_part(s, room, offset, sum, part, out)
 }

@@ -4,6 +4,7 @@ ghost use mathlib.Core.Bool.{_&&_};
 ghost use Prim.Native.Nat.{_-_};
 ghost use lib.Dec.{eqb, leb};
 ghost use Rattle.reassembly.specs.Slots.{nodeOf, sameNode, addressed, sourceOf, sameSource, present, sameKey, noKey, freeSlot, opened, isKey, isOf};
+use expand::checksum::UdpSum;
 use ieee802154::Address;
 use ieee802154::PanField;
 
@@ -31,7 +32,7 @@ pub struct Key {
 }
 
 // A slot's record: open (live is 1) under a key since a time, a mark of coverage and of a part's start for each of its 256
-// units of 8 bytes, and whether the checksum was elided.
+// units of 8 bytes, and what is remembered of the UDP checksum.
 #[repr(C)]
 pub struct Slot {
     pub key: Key,
@@ -39,7 +40,7 @@ pub struct Slot {
     pub covered: [u64; 4],
     pub starts: [u64; 4],
     pub live: u64,
-    pub elided: bool,
+    pub sum: UdpSum,
 }
 
 impl Node {
@@ -153,7 +154,7 @@ impl Slot {
             covered: [0u64; 4],
             starts: [0u64; 4],
             live: 0,
-            elided: false,
+            sum: UdpSum::NONE,
         }
     }
 
@@ -167,7 +168,7 @@ impl Slot {
             covered: [0u64; 4],
             starts: [0u64; 4],
             live: 1,
-            elided: false,
+            sum: UdpSum::NONE,
         }
     }
 

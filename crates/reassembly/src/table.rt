@@ -6,25 +6,23 @@ ghost use Prim.Native.Nat.{_+_, _*_, _<_, _≤_};
 ghost use lib.ListN.{length, take, replicate};
 ghost use lib.Dec.{eqb, ltb, leb};
 ghost use Rattle.octets.specs.Read.{choose};
-ghost use Rattle.octets.specs.Refusal.{numberOf};
 ghost use Rattle.octets.specs.declared.refusal.Refusal.{Refusal};
 ghost use Rattle.reassembly.specs.declared.part.Outcome.{Outcome};
 ghost use Rattle.reassembly.specs.declared.table.Listed.{Listed};
 ghost use Rattle.reassembly.specs.Lists.{count, firstAt, those};
 ghost use Rattle.reassembly.specs.Slots.{sameSource, opened, expired, expire, freeSlot, isKey, present, isFree, gatesOf, isGate, held, free, idleOthers, opening};
-ghost use Rattle.reassembly.specs.Parts.{partOf, place, offer, Placeable};
-ghost use Rattle.reassembly.specs.Table.{chunk, withSlots, step, takeAt, partCall, wholeCall, refusedCall, Lands, Gives};
+ghost use Rattle.reassembly.specs.Parts.{partOf, offer, Placeable};
+ghost use Rattle.reassembly.specs.Table.{chunk, withSlots, takeAt, Lands};
 ghost use Rattle.reassembly.specs.Fresh.{seats, fresh, sources, unfit, Begins};
 use super::part::InSlot;
 use super::part::Outcome;
 use super::part::fits;
 use super::part::offer_part;
-use super::part::place_part;
 use super::slot::Key;
 use super::slot::Slot;
 use super::slot::Source;
 use super::slot::is_expired;
-use expand::copy::put_part;
+use expand::checksum::UdpSum;
 use ieee802154::Address;
 use ieee802154::PanField;
 use octets::refusal::Refusal;
@@ -343,52 +341,34 @@ fn offer_at(
     i: usize,
     mem: &mut [u8],
     offset: Units,
-    elided: bool,
+    sum: UdpSum,
     part: &[u8],
     out: &mut [u8],
 ) -> InSlot
     requires { ⌜ (i < 8) × (16384 ≤ length (now mem)) ⌝ }
     requires { ⌜ Placeable (s .key .size) (offset .0) (now part) (chunk i (now mem)) (now out) ⌝ }
-    ensures { λ r. ⌜ Lands r i (now (mem .entry)) (now (mem .exit)) (now (out .entry)) (now (out .exit)) (offer s (chunk i (now (mem .entry))) (partOf (s .key) (offset .0) elided (now (part .entry)))) ⌝ }
+    ensures { λ r. ⌜ Lands r i (now (mem .entry)) (now (mem .exit)) (now (out .entry)) (now (out .exit)) (offer s (chunk i (now (mem .entry))) (partOf (s .key) (offset .0) sum (now (part .entry)))) ⌝ }
 {
     let from = i * 2048;
     let to = from + 2048;
-    offer_part(s, &mut mem[from..to], offset, elided, part, out)
+    offer_part(s, &mut mem[from..to], offset, sum, part, out)
 }
 
-// A part that opens slot i with the record s.
-fn place_at(
-    s: Slot,
-    i: usize,
-    mem: &mut [u8],
-    offset: Units,
-    elided: bool,
-    part: &[u8],
-    out: &mut [u8],
-) -> InSlot
-    requires { ⌜ (i < 8) × (16384 ≤ length (now mem)) ⌝ }
-    requires { ⌜ Placeable (s .key .size) (offset .0) (now part) (chunk i (now mem)) (now out) ⌝ }
-    ensures { λ r. ⌜ Lands r i (now (mem .entry)) (now (mem .exit)) (now (out .entry)) (now (out .exit)) (place s (chunk i (now (mem .entry))) (partOf (s .key) (offset .0) elided (now (part .entry)))) ⌝ }
-{
-    let start = i * 2048;
-    let end = start + 2048;
-    place_part(s, &mut mem[start..end], offset, elided, part, out)
-}
-
-// A part for slot i, whose record is s, at a time at which s is not old: one under the slot's key is offered to it, any other
-// opens it. Refused, the slot as it was, where too little is lent, the part is none of its datagram, or there is no slot i.
+// A part for slot i, whose record is s, at a time at which s is not old: one under the slot's key is offered to it,
+// any other opens it. Refused, the slot as it was, where too little is lent, the part is none of its datagram, or
+// there is no slot i.
 pub fn take_at(
     s: Slot,
     i: usize,
     time: u64,
     key: Key,
     offset: Units,
-    elided: bool,
+    sum: UdpSum,
     part: &[u8],
     mem: &mut [u8],
     out: &mut [u8],
 ) -> InSlot
-    ensures { λ r. ⌜ Lands r i (now (mem .entry)) (now (mem .exit)) (now (out .entry)) (now (out .exit)) (takeAt s i time (partOf key (offset .0) elided (now (part .entry))) (now (mem .entry)) (now (out .entry))) ⌝ }
+    ensures { λ r. ⌜ Lands r i (now (mem .entry)) (now (mem .exit)) (now (out .entry)) (now (out .exit)) (takeAt s i time (partOf key (offset .0) sum (now (part .entry))) (now (mem .entry)) (now (out .entry))) ⌝ }
 {
     if is_short(mem.len(), out.len()) {
         return stays(s, Refusal::NoRoom);
@@ -400,7 +380,7 @@ pub fn take_at(
         return stays(s, Refusal::NoSlot);
     }
     let z = slot_for(s, key, time);
-    offer_at(z, i, mem, offset, elided, part, out)
+    offer_at(z, i, mem, offset, sum, part, out)
 }
 
 // The record that a part finds: the slot's under its own key, or that of the slot as it is opened.
@@ -419,112 +399,4 @@ fn stays(slot: Slot, e: Refusal) -> InSlot
 {
     let outcome = Outcome::Refused(e);
     InSlot { outcome, slot }
-}
-
-// A call whose frame is refused.
-pub fn refuse(table: Table, time: u64, e: Refusal, mem: &[u8], out: &[u8]) -> Received
-    ensures { λ r. ⌜ Gives r (now (mem .entry)) (now (out .entry)) (now (out .entry)) (step (record { table = table; mem = now (mem .entry) }) (refusedCall (now (mem .entry)) (now (out .entry)) time (numberOf e))) ⌝ }
-{
-    if is_short(mem.len(), out.len()) {
-        let answer = Outcome::Refused(Refusal::NoRoom);
-        return Received { answer, table };
-    }
-    if time < table.last {
-        let answer = Outcome::Refused(Refusal::EarlierTime);
-        return Received { answer, table };
-    }
-    let x = table.aged(time);
-    let answer = Outcome::Refused(e);
-    Received { answer, table: x }
-}
-
-// A call whose frame brings a whole datagram: it goes to the output's start.
-pub fn hand_over(table: Table, time: u64, datagram: &[u8], mem: &[u8], out: &mut [u8]) -> Received
-    ensures { λ r. ⌜ Gives r (now (mem .entry)) (now (out .entry)) (now (out .exit)) (step (record { table = table; mem = now (mem .entry) }) (wholeCall (now (mem .entry)) (now (out .entry)) time (now (datagram .entry)))) ⌝ }
-{
-    if is_short(mem.len(), out.len()) {
-        let answer = Outcome::Refused(Refusal::NoRoom);
-        return Received { answer, table };
-    }
-    if time < table.last {
-        let answer = Outcome::Refused(Refusal::EarlierTime);
-        return Received { answer, table };
-    }
-    put_part(out, 0, datagram, 0, datagram.len());
-    let x = table.aged(time);
-    let answer = Outcome::Out(datagram.len());
-    Received { answer, table: x }
-}
-
-// A part that comes at a time: the checks of the scope document in its order, then the slot of its key, or one that is
-// opened.
-pub fn receive_part(
-    table: Table,
-    time: u64,
-    key: Key,
-    offset: Units,
-    elided: bool,
-    part: &[u8],
-    mem: &mut [u8],
-    out: &mut [u8],
-) -> Received
-    ensures { λ r. ⌜ Gives r (now (mem .exit)) (now (out .entry)) (now (out .exit)) (step (record { table = table; mem = now (mem .entry) }) (partCall (now (mem .entry)) (now (out .entry)) time (partOf key (offset .0) elided (now (part .entry))))) ⌝ }
-{
-    let mut x = table;
-    if is_short(mem.len(), out.len()) {
-        let answer = Outcome::Refused(Refusal::NoRoom);
-        return Received { answer, table: x };
-    }
-    if time < x.last {
-        let answer = Outcome::Refused(Refusal::EarlierTime);
-        return Received { answer, table: x };
-    }
-    let mut i: usize = 0;
-    while i < 8 {
-        let live = x.slots[i].live;
-        let since = x.slots[i].since;
-        if is_expired(live, since, time) {
-            let s = Slot::free();
-            x.slots[i] = s;
-        }
-        i = i + 1;
-    }
-    x.last = time;
-    let src = key.src;
-    let gateways = x.gateways;
-    if !is_gateway(gateways, src) {
-        let answer = Outcome::Refused(Refusal::NotGateway);
-        return Received { answer, table: x };
-    }
-    if !fits(key.size, offset, part.len()) {
-        let answer = Outcome::Refused(Refusal::BadPart);
-        return Received { answer, table: x };
-    }
-    let mut f: usize = 0;
-    while f < 8 {
-        let s = x.slots[f];
-        if s.has_key(key) {
-            break;
-        }
-        f = f + 1;
-    }
-    if f < 8 {
-        let s = x.slots[f];
-        let d = offer_at(s, f, mem, offset, elided, part, out);
-        let answer = d.outcome;
-        let z = d.slot;
-        x.slots[f] = z;
-        return Received { answer, table: x };
-    }
-    let low = to_open(x, src);
-    if low < 8 {
-        let s = Slot::opened(key, time);
-        let d = place_at(s, low, mem, offset, elided, part, out);
-        let answer = d.outcome;
-        let z = d.slot;
-        x.slots[low] = z;
-        return Received { answer, table: x };
-    }
-    let answer = Outcome::Refused(Refusal::NoSlot);
-    Received { answer, table: x }
 }

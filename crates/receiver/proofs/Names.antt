@@ -7,12 +7,15 @@ use mathlib.Core.Bool.{true, false}
 use mathlib.Core.List.{List}
 use lib.ListN.{length}
 use Rattle.octets.specs.Read.{Answer, is, refused, andThen}
+use Rattle.expand.specs.Sum.{holds}
+use Rattle.expand.specs.declared.checksum.UdpSum.{UdpSum}
 use Rattle.incoming.specs.Incoming.{arrival, Brought, datagram, payload}
 use Rattle.incoming.specs.Incoming as Incoming
 use Rattle.incoming.specs.declared.arrival.Arrival.{Arrival}
 use Rattle.incoming.proofs.Names.{Headed, part-header}
 use Rattle.incoming.proofs.Sized.{SizedBrought, payload-sized}
 use Rattle.reassembly.specs.Slots.{nodeOf, addressed, owner, isGate}
+use Rattle.reassembly.specs.Parts as Parts
 use Rattle.reassembly.specs.Parts.{Part}
 use Rattle.reassembly.specs.Table.{Call, short, other, part, lentCall, step, At, after}
 use Rattle.reassembly.specs.declared.table.Table.{Table}
@@ -21,7 +24,7 @@ use Rattle.reassembly.specs.declared.slot.Key.{Key}
 use Rattle.reassembly.proofs.Tests.{by-test}
 use Rattle.reassembly.proofs.Lent.{not-other, lent-after, lent-part, lent-length}
 use Rattle.reassembly.proofs.Sized.{Sized, SizedCall, lent-sized}
-use Rattle.receiver.specs.Receive.{senderOf, keyOf, welcome, admitted, brings, carries, frameCall, callOf}
+use Rattle.receiver.specs.Receive.{senderOf, keyOf, welcome, admitted, tested, brings, carries, frameCall, callOf}
 use Rattle.receiver.specs.Names.{named}
 
 -- ---- a part that a call brings, and its time
@@ -57,7 +60,7 @@ module _ (gs : List Source) (ctx : List ℕ) (t : ℕ) (s : List ℕ) (u : ℕ) 
   brings-part a q g e = go (payload ctx a s) refl e
     where
       go : (r : Answer Brought) → payload ctx a s ≡ r → brings t a r ≡ part u p → Comes gs t s u p
-      go (is (datagram d)) f e = not-other t u _ p e
+      go (is (datagram d m)) f e = not-other t u _ p e
       go (is (Incoming.part size tag v bs el)) f e =
           let k : keyOf a size tag ≡ p .key = ap (keyIn (keyOf a size tag)) e in
           record {
@@ -85,7 +88,7 @@ carries-after : (n t : ℕ) (ctx s : List ℕ) (r : Answer Arrival) → after n 
 carries-after n t ctx s (is a) = go (payload ctx a s)
   where
     go : (r : Answer Brought) → after n (brings t a r) ≡ t
-    go (is (datagram d)) = refl
+    go (is (datagram d m)) = refl
     go (is (Incoming.part size tag v bs el)) = refl
     go (refused r) = refl
 carries-after n t ctx s (refused r) = refl
@@ -103,7 +106,7 @@ unfolding frameCall
 frame-at gs ctx t s = go (admitted gs s)
   where
     bring : (a : Arrival) (r : Answer Brought) → At (brings t a r) t
-    bring a (is (datagram d)) = refl
+    bring a (is (datagram d m)) = refl
     bring a (is (Incoming.part size tag v bs el)) = refl
     bring a (refused r) = refl
 
@@ -138,8 +141,12 @@ module _ (m o : List ℕ) (gs : List Source) (ctx : List ℕ) (t : ℕ) (s : Lis
   call-memory m′ e = lent-length m o (frameCall gs ctx t s) m′ e
 
 -- ---- how long a datagram is that is handed out
+tested-sized : (m : UdpSum) (d : List ℕ) → Sized (Parts.out d) → Sized (tested m d)
+unfolding tested
+tested-sized m d z = by-test (holds m d) (λ e. rw e z) (λ e. rw e tt)
+
 brings-sized : (t : ℕ) (a : Arrival) (b : Answer Brought) → SizedBrought b → SizedCall (brings t a b)
-brings-sized t a (is (datagram d)) h = (h .0, omega (arith, h .1))
+brings-sized t a (is (datagram d m)) h = tested-sized m d (h .0, omega (arith, h .1))
 brings-sized t a (is (Incoming.part size tag v bs el)) h = tt
 brings-sized t a (refused r) h = tt
 

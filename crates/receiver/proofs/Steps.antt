@@ -1,10 +1,9 @@
 -- What a frame is to the table, answer by answer.
-use Prim.Native.Nat.{ℕ, _-_, _≤_, min}
-use native.Mathlib.Omega.{arith, min-cases}
-use native.Mathlib.Nat.{sub-zero}
+use Prim.Native.Nat.{ℕ, _-_, _≤_}
+use native.Mathlib.Omega.{arith}
 use mathlib.Core.List.{List, _++_}
 use mathlib.Core.Bool.{Bool, true, false}
-use mathlib.Core.Path.{_≡_, refl, sym, ap, ap₂, subst, _∙_}
+use mathlib.Core.Path.{_≡_, refl, sym, ap, ap₂, _∙_}
 use lib.ListN.{length, take, drop, length-drop, length-replicate}
 use lib.Seq.{take-all, take-at, length-take-le}
 use borrow.Author.Tests.{le-leb, ne-eqb}
@@ -14,7 +13,9 @@ use Rattle.octets.specs.Write.{put, over}
 use Rattle.octets.proofs.Spans.{not-refused}
 use Rattle.octets.proofs.Puts.{put-front}
 use Rattle.octets.specs.declared.refusal.Refusal.{Refusal}
-use Rattle.octets.specs.declared.refusal.Refusal.the-variants.{NotGateway, NoAddress}
+use Rattle.octets.specs.declared.refusal.Refusal.the-variants.{NotGateway, NoAddress, BadChecksum}
+use Rattle.expand.specs.Sum.{noSum, holds, holdsIn}
+use Rattle.expand.specs.declared.checksum.UdpSum.{UdpSum}
 use Rattle.incoming.specs.Incoming.{ofArrival, arrival, Brought, scratchAfter, payloadIn, Brings}
 use Rattle.incoming.specs.declared.arrival.Arrival.{Arrival}
 use Rattle.incoming.specs.declared.arrival.ArrivalAnswer.{ArrivalAnswer}
@@ -25,15 +26,11 @@ use Rattle.reassembly.specs.Slots.{nodeOf, addressed, isGate}
 use Rattle.reassembly.specs.Parts as Parts
 use Rattle.reassembly.specs.Parts.{partOf}
 use Rattle.reassembly.specs.Table as Table
-use Rattle.reassembly.specs.Table.{Call, other, step, lentCall, Gives}
-use Rattle.reassembly.specs.declared.table.Table as T
-use Rattle.reassembly.specs.declared.table.Received.{Received}
+use Rattle.reassembly.specs.Table.{other}
 use Rattle.reassembly.specs.declared.slot.Source.{Source}
 use Rattle.reassembly.specs.declared.slot.Key.{Key}
-use Rattle.receiver.specs.Receive.{senderOf, keyOf, welcome, admitted, brings, carries, frameCall}
-use Rattle.receiver.specs.Carried.{nothing, whole, part, callAs, carriedCall, zeros, Carries}
-use Rattle.receiver.specs.declared.What.{What}
-use Rattle.receiver.specs.declared.Carried.{Carried}
+use Rattle.receiver.specs.Receive.{senderOf, keyOf, welcome, admitted, tested, brings, carries, frameCall}
+use Rattle.receiver.specs.Carried.{nothing, whole, part, zeros, Carries}
 
 -- ---- who sends it to whom
 module _ (gs : List Source) (s : List ℕ) (y : ArrivalAnswer) (p : ofArrival y ≡ arrival s) where
@@ -78,28 +75,28 @@ module _ (gs : List Source) (ctx s : List ℕ) (y : ArrivalAnswer) (p : ofArriva
   unfolding frameCall
   frame-none e q t = ap (λ z. carries t ctx s z) (sym (ap ofArrival q) ∙ p)
 
-  module _ (a : Arrival) (q : y ≡ ArrivalAnswer.Is a) (r : Payload) (room l : List ℕ) (big : 175 ≤ length room) (b : Brings r room l s (payloadIn room ctx a s)) (t : ℕ) where
+  module _ (a : Arrival) (q : y ≡ ArrivalAnswer.Is a) (r : Payload) (room l : List ℕ) (big : 455 ≤ length room) (b : Brings r room l s (payloadIn room ctx a s)) (t : ℕ) where
     frame-brings : {x : Answer Brought} → x ≡ payloadIn room ctx a s → brings t a x ≡ frameCall gs ctx t s
     unfolding frameCall
     frame-brings e = ap (λ z. brings t a z) (e ∙ in-room room ctx a s big) ∙ ap (λ z. carries t ctx s z) (sym (ap ofArrival q) ∙ p)
 
-    frame-whole : (n : ℕ) → r ≡ Payload.Whole n → other t (Parts.out (take n l)) ≡ frameCall gs ctx t s
-    frame-whole n e = frame-brings (rw e at (b .answer))
+    frame-whole : (n : ℕ) (el : UdpSum) → r ≡ Payload.Whole n el → other t (tested el (take n l)) ≡ frameCall gs ctx t s
+    frame-whole n el e = frame-brings (rw e at (b .answer))
 
     frame-refused : (e : Refusal) → r ≡ Payload.Refused e → other t (Parts.refused (numberOf e)) ≡ frameCall gs ctx t s
     frame-refused x e = frame-brings (rw e at (b .answer))
 
     -- a part under the key k
     module _ (size tag : ℕ) (k : Key) (key : k ≡ keyOf a size tag) where
-      frame-first : (n : ℕ) (el : Bool) → r ≡ Payload.First size tag n el → Table.part t (partOf k 0 el (take n l)) ≡ frameCall gs ctx t s
+      frame-first : (n : ℕ) (el : UdpSum) → r ≡ Payload.First size tag n el → Table.part t (partOf k 0 el (take n l)) ≡ frameCall gs ctx t s
       frame-first n el e = ap (λ z. Table.part t (partOf z 0 el (take n l))) key ∙ frame-brings (rw e at (b .answer))
 
       -- its bytes stand at the start of l′
       frame-later : (u : Units) (from : ℕ) → r ≡ Payload.Later size tag u from → 127 ≤ length l → (l′ : List ℕ) → l′ ≡ put 0 (take (length s - from) (drop from s)) l
-          → Table.part t (partOf k (u .0) false (take (length s - from) l′)) ≡ frameCall gs ctx t s
+          → Table.part t (partOf k (u .0) noSum (take (length s - from) l′)) ≡ frameCall gs ctx t s
       frame-later u from e room-for l′ w =
           let g = put-later s l l′ from (admitted-short gs s a (sym p ∙ ap ofArrival q)) room-for w .0 in
-          ap₂ (λ x z. Table.part t (partOf x (u .0) false z)) key g ∙ frame-brings (rw e at (b .answer))
+          ap₂ (λ x z. Table.part t (partOf x (u .0) noSum z)) key g ∙ frame-brings (rw e at (b .answer))
 
 -- ---- and by value, in full
 module _ (gs : List Source) (ctx s : List ℕ) (y : ArrivalAnswer) (p : ofArrival y ≡ admitted gs s) where
@@ -107,20 +104,36 @@ module _ (gs : List Source) (ctx s : List ℕ) (y : ArrivalAnswer) (p : ofArriva
   carries-none e q = record { call = λ t. frame-none gs ctx s y p e q t; bare = (refl, refl, refl, refl); len = refl; bytes = refl }
 
   module _ (a : Arrival) (q : y ≡ ArrivalAnswer.Is a) (r : Payload) (l : List ℕ) (b : Brings r zeros l s (payloadIn zeros ctx a s)) where
-    big : 175 ≤ length zeros
-    big = omega (arith, length-replicate {A = ℕ} 176 0)
+    big : 455 ≤ length zeros
+    big = omega (arith, length-replicate {A = ℕ} 456 0)
 
     -- the scratch, where the answer is x
     scratch-is : {x : Answer Brought} → x ≡ payloadIn zeros ctx a s → l ≡ scratchAfter x zeros
     scratch-is e = b .scratch ∙ ap (λ z. scratchAfter z zeros) (sym e)
 
-    pub carries-whole : (n : ℕ) → r ≡ Payload.Whole n → Carries (whole n l) gs ctx s
-    carries-whole n e = record {
-      call = λ t. frame-whole gs ctx s y p a q r zeros l big b t n e;
-      bare = (refl, refl, refl);
-      len = sym (length-take-le n l (rw e at (b .within)));
-      bytes = scratch-is (rw e at (b .answer));
-    }
+    -- whether a carried checksum holds, as a call says it
+    module _ (n : ℕ) (el : UdpSum) (e : r ≡ Payload.Whole n el) (h : Bool) (f : h ≡ holdsIn el n l) where
+      whole-holds : holds el (take n l) ≡ h
+      unfolding holdsIn
+      whole-holds = sym (f ∙ rw (le-leb n (length l) (rw e at (b .within))) refl)
+
+      pub carries-wrong : h ≡ false → Carries (nothing BadChecksum zeros) gs ctx s
+      unfolding tested
+      carries-wrong z = record {
+        call = λ t. ap (λ w. other t w) (rw (whole-holds ∙ z) refl) ∙ frame-whole gs ctx s y p a q r zeros l big b t n el e;
+        bare = (refl, refl, refl, refl);
+        len = refl;
+        bytes = refl;
+      }
+
+      pub carries-right : h ≡ true → Carries (whole n l) gs ctx s
+      unfolding tested
+      carries-right z = record {
+        call = λ t. ap (λ w. other t w) (rw (whole-holds ∙ z) refl) ∙ frame-whole gs ctx s y p a q r zeros l big b t n el e;
+        bare = (refl, refl, refl);
+        len = sym (length-take-le n l (rw e at (b .within)));
+        bytes = scratch-is (rw e at (b .answer));
+      }
 
     pub carries-refused : (e : Refusal) → r ≡ Payload.Refused e → Carries (nothing e l) gs ctx s
     carries-refused x e = record {
@@ -131,7 +144,7 @@ module _ (gs : List Source) (ctx s : List ℕ) (y : ArrivalAnswer) (p : ofArriva
     }
 
     module _ (size tag : ℕ) (k : Key) (key : k ≡ keyOf a size tag) where
-      pub carries-first : (n : ℕ) (el : Bool) → r ≡ Payload.First size tag n el → Carries (part k (record { 0 = 0 }) el n l) gs ctx s
+      pub carries-first : (n : ℕ) (el : UdpSum) → r ≡ Payload.First size tag n el → Carries (part k (record { 0 = 0 }) el n l) gs ctx s
       carries-first n el e = record {
         call = λ t. frame-first gs ctx s y p a q r zeros l big b t size tag k key n el e;
         bare = tt;
@@ -140,7 +153,7 @@ module _ (gs : List Source) (ctx s : List ℕ) (y : ArrivalAnswer) (p : ofArriva
       }
 
       pub carries-later : (u : Units) (from : ℕ) → r ≡ Payload.Later size tag u from → 127 ≤ length l → (l′ : List ℕ) → l′ ≡ put 0 (take (length s - from) (drop from s)) l
-          → Carries (part k u false (length s - from) l′) gs ctx s
+          → Carries (part k u noSum (length s - from) l′) gs ctx s
       carries-later u from e room-for l′ w =
           let P = put-later s l l′ from (admitted-short gs s a (sym p ∙ ap ofArrival q)) room-for w in
           let h : 1 ≤ u .0 = (rw e at (b .within)) .1 in
@@ -156,17 +169,3 @@ module _ (gs : List Source) (ctx s : List ℕ) (y : ArrivalAnswer) (p : ofArriva
 module _ (r : Payload) (room l s : List ℕ) (b : Answer Brought) (h : Brings r room l s b) where
   pub later-within : (size tag : ℕ) (u : Units) (from : ℕ) → r ≡ Payload.Later size tag u from → from ≤ length s
   later-within size tag u from e = (rw e at (h .within)) .0
-
--- ---- by value
--- no more of the bytes than there are
-pub take-min : (n k : ℕ) (l : List ℕ) → length l ≡ k → take (min n k - 0) l ≡ take n l
-take-min n k l e = min-cases n k (take (min n k - 0) l ≡ take n l)
-    (λ p q. ap (λ z. take z l) (sub-zero (min n k) ∙ q))
-    (λ p q. ap (λ z. take z l) (sub-zero (min n k) ∙ q) ∙ take-all k l (omega arith) ∙ sym (take-all n l (omega arith)))
-
-pub call-as : (c : Carried) (w : What) → c .what ≡ w → (t : ℕ) → callAs w t c ≡ carriedCall t c
-call-as c w q t = ap (λ z. callAs z t c) (sym q)
-
--- of equal calls
-pub gives-as : (tb : T.Table) (m o : List ℕ) {x y : Call} → x ≡ y → {r : Received} {m′ o′ : List ℕ} → Gives r m′ o o′ (step (record { table = tb; mem = m }) (lentCall m o x)) → Gives r m′ o o′ (step (record { table = tb; mem = m }) (lentCall m o y))
-gives-as tb m o e {r} {m′} {o′} g = subst (λ z. Gives r m′ o o′ (step (record { table = tb; mem = m }) (lentCall m o z))) e g

@@ -1,3 +1,4 @@
 pub mod Receive
 pub mod Carried
+pub mod Steps
 pub mod Names

@@ -4,6 +4,8 @@ use Prim.Native.Nat.{ℕ}
 use mathlib.Core.List.{List}
 use Rattle.octets.specs.Read.{Answer, is, refused, andThen, choose}
 use Rattle.incoming.specs.Incoming.{arrival, Brought, datagram, part, payload}
+use Rattle.expand.specs.Sum.{holds}
+use Rattle.expand.specs.declared.checksum.UdpSum.{UdpSum}
 use Rattle.incoming.specs.declared.arrival.Arrival.{Arrival}
 use Rattle.reassembly.specs.Slots.{nodeOf, addressed, sourceOf, isGate}
 use Rattle.reassembly.specs.Parts as Parts
@@ -29,9 +31,13 @@ welcome gs a = choose (isGate (senderOf a) gs) (choose (addressed (nodeOf (a .ds
 unfoldable pub admitted : List Source → List ℕ → Answer Arrival
 admitted gs s = andThen (arrival s) (λ a. welcome gs a)
 
+-- the change requests, item 7: a datagram that came whole is handed out, but not one whose carried checksum does not hold, 17
+unfoldable pub tested : UdpSum → List ℕ → Parts.Reply (List ℕ)
+tested m d = choose (holds m d) (Parts.out d) (Parts.refused 17)
+
 -- what its payload is to the table, at the time t: a datagram to hand out, a part under its key, or a refusal
 abbrev pub brings : ℕ → Arrival → Answer Brought → Call
-brings t a (is (datagram d)) = other t (Parts.out d)
+brings t a (is (datagram d m)) = other t (tested m d)
 brings t a (is (part size tag u bs e)) = Table.part t (partOf (keyOf a size tag) u e bs)
 brings t a (refused n) = other t (Parts.refused n)
 

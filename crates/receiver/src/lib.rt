@@ -1,16 +1,28 @@
 // The receiver: one call takes a time, a frame, contexts, the lent memory and an output.
 //
-// The answer, the table, the lent memory and the output of `receive` are, on every input, those of the slot table's `step`
-// on what specs/Receive.antt says the frame is. A refusal writes no lent byte. `Carried` is what a frame carries to a table,
-// in full and by value (specs/Carried.antt), and `settle` a call with it.
+// The answer, the table, the lent memory and the output of `receive` are, on every input, those of the slot table's
+// `step` on what specs/Receive.antt says the frame is. No refusal but 17 writes a lent byte. `Carried` is what a frame
+// carries to a table, in full and by value (specs/Carried.antt).
+//
+// - `call`: the steps of a call. `receive` takes them on a table by value, the library on one that its caller keeps.
+pub mod call;
+
 ghost use mathlib.Core.Path.{_≡_};
 ghost use Prim.Native.Nat.{_≤_, min};
 ghost use Rattle.incoming.specs.Incoming.{ofArrival};
 ghost use Rattle.reassembly.specs.Lists.{those};
 ghost use Rattle.reassembly.specs.Slots.{present, gatesOf};
-ghost use Rattle.reassembly.specs.Table.{step, lentCall, Gives};
+ghost use Rattle.reassembly.specs.Table.{step, Gives};
 ghost use Rattle.receiver.specs.Receive.{senderOf, keyOf, admitted, callOf};
-ghost use Rattle.receiver.specs.Carried.{carriedCall, Carries, nothing, whole, part};
+ghost use Rattle.receiver.specs.Carried.{Carries, nothing, whole, part};
+use call::Judged;
+use call::find;
+use call::is_taken;
+use call::judge;
+use call::put_at;
+use call::to_open;
+use expand::checksum::UdpSum;
+use expand::checksum::is_right;
 use expand::copy::put_part;
 use incoming::Arrival;
 use incoming::Payload;
@@ -18,13 +30,11 @@ use incoming::arrival::ArrivalAnswer;
 use octets::refusal::Refusal;
 use reassembly::Key;
 use reassembly::Node;
+use reassembly::Outcome;
 use reassembly::Received;
 use reassembly::Source;
 use reassembly::Table;
-use reassembly::hand_over;
 use reassembly::is_gateway;
-use reassembly::receive_part;
-use reassembly::refuse;
 use sixlowpan::frag::Units;
 
 pub enum What {
@@ -33,15 +43,15 @@ pub enum What {
     Refused(Refusal),
 }
 
-// What a frame carries: a whole datagram or a part of one, the first `len` of `bytes`, compressed headers in full; or a refusal.
-// `key`, `offset` and `elided` are a part's.
+// What a frame carries: a whole datagram or a part of one, the first `len` of `bytes`, compressed headers in full; or
+// a refusal. `key`, `offset` and `sum` are a part's.
 pub struct Carried {
     pub what: What,
     pub key: Key,
     pub offset: Units,
-    pub elided: bool,
+    pub sum: UdpSum,
     pub len: usize,
-    pub bytes: [u8; 176],
+    pub bytes: [u8; 456],
 }
 
 fn sender_of(a: Arrival) -> Source
@@ -87,7 +97,7 @@ fn key_of(a: Arrival, size: u16, tag: u16) -> Key
 }
 
 impl Carried {
-    fn refused(e: Refusal, bytes: [u8; 176]) -> Carried
+    fn refused(e: Refusal, bytes: [u8; 456]) -> Carried
         ensures { λ r. ⌜ r ≡ nothing e bytes ⌝ }
     {
         let key = Key::none();
@@ -95,13 +105,13 @@ impl Carried {
             what: What::Refused(e),
             key,
             offset: Units(0),
-            elided: false,
+            sum: UdpSum::NONE,
             len: 0,
             bytes,
         }
     }
 
-    fn whole(len: usize, bytes: [u8; 176]) -> Carried
+    fn whole(len: usize, bytes: [u8; 456]) -> Carried
         ensures { λ r. ⌜ r ≡ whole len bytes ⌝ }
     {
         let key = Key::none();
@@ -109,20 +119,20 @@ impl Carried {
             what: What::Whole,
             key,
             offset: Units(0),
-            elided: false,
+            sum: UdpSum::NONE,
             len,
             bytes,
         }
     }
 
-    fn part(key: Key, offset: Units, elided: bool, len: usize, bytes: [u8; 176]) -> Carried
-        ensures { λ r. ⌜ r ≡ part key offset elided len bytes ⌝ }
+    fn part(key: Key, offset: Units, sum: UdpSum, len: usize, bytes: [u8; 456]) -> Carried
+        ensures { λ r. ⌜ r ≡ part key offset sum len bytes ⌝ }
     {
         Carried {
             what: What::Part,
             key,
             offset,
-            elided,
+            sum,
             len,
             bytes,
         }
@@ -132,16 +142,21 @@ impl Carried {
     pub fn read(gateways: [Source; 4], frame: &[u8], contexts: &[u8]) -> Carried
         ensures { λ r. ⌜ Carries r (those present gateways) (now (contexts .entry)) (now (frame .entry)) ⌝ }
     {
-        let mut bytes = [0u8; 176];
+        let mut bytes = [0u8; 456];
         match admit(gateways, frame) {
             ArrivalAnswer::Is(a) => match Payload::read(frame, a, contexts, &mut bytes) {
-                Payload::Whole(n) => Carried::whole(n, bytes),
+                Payload::Whole { len, sum } => {
+                    if is_right(&bytes, len, sum) {
+                        return Carried::whole(len, bytes);
+                    }
+                    Carried::refused(Refusal::BadChecksum, [0u8; 456])
+                }
                 Payload::First {
                     size,
                     tag,
                     len,
-                    elided,
-                } => Carried::part(key_of(a, size, tag), Units(0), elided, len, bytes),
+                    sum,
+                } => Carried::part(key_of(a, size, tag), Units(0), sum, len, bytes),
                 Payload::Later {
                     size,
                     tag,
@@ -150,7 +165,7 @@ impl Carried {
                 } => {
                     let n = frame.len() - from;
                     put_part(&mut bytes, 0, frame, from, n);
-                    Carried::part(key_of(a, size, tag), offset, false, n, bytes)
+                    Carried::part(key_of(a, size, tag), offset, UdpSum::NONE, n, bytes)
                 }
                 Payload::Refused(e) => Carried::refused(e, bytes),
             },
@@ -160,33 +175,15 @@ impl Carried {
 
     // How many of the bytes are the datagram's or the part's.
     pub fn size(self) -> usize
-        ensures { λ r. ⌜ (r ≡ min (self .len) 176) × (r ≤ 176) ⌝ }
+        ensures { λ r. ⌜ (r ≡ min (self .len) 456) × (r ≤ 456) ⌝ }
     {
-        if self.len < 176 { self.len } else { 176 }
-    }
-}
-
-// A call with what a frame carries.
-pub fn settle(table: Table, time: u64, c: Carried, mem: &mut [u8], out: &mut [u8]) -> Received
-    ensures { λ r. ⌜ Gives r (now (mem .exit)) (now (out .entry)) (now (out .exit)) (step (record { table = table; mem = now (mem .entry) }) (lentCall (now (mem .entry)) (now (out .entry)) (carriedCall time c))) ⌝ }
-{
-    let bytes = c.bytes;
-    let n = c.size();
-    let what = c.what;
-    match what {
-        What::Part => {
-            let key = c.key;
-            let offset = c.offset;
-            receive_part(table, time, key, offset, c.elided, &bytes[0..n], mem, out)
-        }
-        What::Whole => hand_over(table, time, &bytes[0..n], mem, out),
-        What::Refused(e) => refuse(table, time, e, mem, out),
+        if self.len < 456 { self.len } else { 456 }
     }
 }
 
 // A frame that comes at a time.
 pub fn receive(
-    table: Table,
+    mut table: Table,
     time: u64,
     frame: &[u8],
     contexts: &[u8],
@@ -195,7 +192,36 @@ pub fn receive(
 ) -> Received
     ensures { λ r. ⌜ Gives r (now (mem .exit)) (now (out .entry)) (now (out .exit)) (step (record { table = table; mem = now (mem .entry) }) (callOf (now (mem .entry)) (now (out .entry)) (gatesOf table) (now (contexts .entry)) time (now (frame .entry)))) ⌝ }
 {
-    let gateways = table.gateways;
-    let c = Carried::read(gateways, frame, contexts);
-    settle(table, time, c, mem, out)
+    match judge(table.last, time, mem.len(), out.len()) {
+        Judged::Taken => {
+            if table.is_due(time) {
+                table = table.aged(time);
+            }
+            table.last = time;
+            let gateways = table.gateways;
+            let c = Carried::read(gateways, frame, contexts);
+            if is_taken(c) {
+                let mut i = find(table, c);
+                if i == 8 {
+                    i = to_open(table, c);
+                }
+                if i < 8 {
+                    let s = table.slots[i];
+                    let d = put_at(s, i, time, c, mem, out);
+                    let answer = d.outcome;
+                    let slot = d.slot;
+                    table.slots[i] = slot;
+                    return Received { answer, table };
+                }
+                let answer = Outcome::Refused(Refusal::NoSlot);
+                return Received { answer, table };
+            }
+            let answer = call::answer(c, out);
+            Received { answer, table }
+        }
+        Judged::Refused(e) => {
+            let answer = Outcome::Refused(e);
+            Received { answer, table }
+        }
+    }
 }

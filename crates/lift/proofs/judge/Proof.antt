@@ -1,32 +1,50 @@
 use mathlib.Core.Path.{sym, _∙_}
-use borrow.Author.Tests.{lt-ltb, le-ltb}
-use Rattle.lift.specs.InPlace.{judged}
+use Rattle.lift.proofs.InPlace.{number-taken, number-refused}
 use borrow.Author.Needs.{needs}
 use Rattle.lift.proofs.judge.Statement.{statement}
 use Rattle.lift.proofs.judge.Tie as tie
 
-is-short-requires : tie.Need-is-short-requires
-is-short-requires c κs = search needs
+judge-requires : tie.Need-judge-requires
+judge-requires c κs = search needs
 
-returns : tie.Need-returns
-unfolding judged
-returns c = rw (sym (c .before .is-short .ensures) ∙ c .if1 .taken)
-
-returns-2 : tie.Need-returns-2
-unfolding judged
-returns-2 c = rw (sym (c .before .before .before .is-short .ensures) ∙ c .before .before .if1 .left, lt-ltb _ _ (c .if2 .taken))
+enum-told : tie.Need-enum-told
+enum-told c = search needs
 
 is-due-requires : tie.Need-is-due-requires
 is-due-requires c κs = search needs
 
-returns-3 : tie.Need-returns-3
-unfolding judged
-returns-3 c = rw (sym (c .before .before .before .before .before .is-short .ensures) ∙ c .before .before .before .before .if1 .left, le-ltb _ _ (c .before .before .if2 .left), sym (c .before .is-due .ensures) ∙ c .if3 .taken)
+returns : tie.Need-returns
+returns c = number-taken _ _ _ _ (c .before .before .before .before .judge .result) (c .before .before .before .before .judge .ensures) (c .before .before .enum-told .given .1) _ (sym (c .before .is-due .ensures) ∙ c .if1 .taken)
 
-returns-4 : tie.Need-returns-4
-unfolding judged
-returns-4 c = rw (sym (c .before .before .before .before .before .is-short .ensures) ∙ c .before .before .before .before .if1 .left, le-ltb _ _ (c .before .before .if2 .left), sym (c .before .is-due .ensures) ∙ c .if3 .left)
+enum-known-e : tie.Need-enum-known-e
+enum-known-e c = search needs
+
+number-requires : tie.Need-number-requires
+number-requires c κs = search needs
+
+cast-result : tie.Need-cast-result
+cast-result c = search needs
+
+add-result : tie.Need-add-result
+add-result c = search needs
+
+returns-2 : tie.Need-returns-2
+returns-2 c = number-taken _ _ _ _ (c .before .before .before .before .judge .result) (c .before .before .before .before .judge .ensures) (c .before .before .enum-told .given .1) _ (sym (c .before .is-due .ensures) ∙ c .if1 .left)
+
+returns-3 : tie.Need-returns-3
+returns-3 c = number-refused _ _ _ _ (c .before .before .before .before .judge .result) (c .before .before .before .before .judge .ensures) _ (c .before .before .e .given .1) _ (c .number .ensures)
 
 pub judge-spec : {M : Type 1} → statement M
 judge-spec =
-    tie.close (tie.spec is-short-requires returns returns-2 is-due-requires returns-3 returns-4)
+    tie.close
+    (tie.spec
+    judge-requires
+    enum-told
+    is-due-requires
+    returns
+    enum-known-e
+    number-requires
+    cast-result
+    add-result
+    returns-2
+    returns-3)

@@ -59,7 +59,8 @@ use Rattle.reassembly.proofs.table.Table.aged.Met as aged-thm
 use Rattle.lift.specs.Face.{received, Answers}
 use Rattle.lift.specs.InPlace.{judged, ReceivesIn}
 use Rattle.lift.proofs.Items.{kept}
-use Rattle.lift.proofs.InPlace.{withTime, judged-refused, judged-fresh, judged-due}
+use Rattle.receiver.proofs.Turns.{withTime}
+use Rattle.lift.proofs.InPlace.{judged-refused, judged-fresh, judged-due}
 use Rattle.lift.proofs.judge as judge
 use Rattle.lift.proofs.judge.Symbol as judge-def
 use Rattle.lift.proofs.judge.Symbol.{name as #lift·judge}

@@ -1,21 +1,15 @@
-use mathlib.Core.Path.{_≡_, sym, subst}
-use lib.ListN.{length}
-use Rattle.reassembly.proofs.Lists.{unmapped}
-use Rattle.lift.specs.Face.{InHalf}
+use mathlib.Core.Path.{sym, ap, subst, _∙_}
+use Rattle.lift.specs.Face.{packed, InHalf}
 use Rattle.lift.proofs.Lengths.{take-half}
-use Rattle.lift.proofs.ByValue.{put-as}
 use borrow.Author.Needs.{needs}
 use Rattle.lift.proofs.put_at.Statement.{statement}
 use Rattle.lift.proofs.put_at.Tie as tie
 
-size-requires : tie.Need-size-requires
-size-requires c κs = search needs
-
-take-first-requires : tie.Need-take-first-requires
-take-first-requires c κs = search needs
+put-at-requires : tie.Need-put-at-requires
+put-at-requires c κs = search needs
 
 pack-requires : tie.Need-pack-requires
-pack-requires c κs = subst InHalf (sym (c .before .before .before .before .before .take-first .ensures .answer)) (take-half _ _ _ _ _ _)
+pack-requires c κs = subst InHalf (sym (c .before .before .before .before .before .put-at .ensures .answer)) (take-half _ _ _ _ _ _)
 
 same-length : tie.Need-same-length
 same-length c = search needs
@@ -25,11 +19,8 @@ same-length-2 c = search needs
 
 returns : tie.Need-returns
 returns c =
-    let a = c .before .before .before .before .before .before .before .before .before .before .before .before .before .before .before .before .before .args in
-    let n : length (c .before .before .before .before .before .before .before .before .before .before .before .before .before .before .before .before .before .args .t4 .bytes) ≡ 176 = unmapped (c .before .before .before .before .before .before .before .before .before .before .before .before .before .before .before .before .before .args .t4 .bytes) _ (c .before .before .before .before .before .before .before .before .before .before .before .before .before .before .before .before .before .good .1 .1 .1 .0 .1 .1 .1 .1 .1 .1 .1 .0 .1 .0 .1) in
-    put-as (a .t4) _ (c .before .before .before .before .before .before .before .before .before .before .before .before .before .before .size .ensures .0) n (a .s) (a .i) (a .time) (a .mem .now) (a .out .now) _ _ _ (c .before .before .before .before .before .before .take-first .ensures) _ (c .pack .ensures)
+    let L = c .before .before .before .before .before .before .put-at .ensures in
+    record { answer = c .pack .ensures ∙ ap packed (L .answer); slot = L .slot; memory = L .memory; output = L .output }
 
 pub put-at-spec : {M : Type 1} → statement M
-put-at-spec =
-    tie.close
-    (tie.spec size-requires take-first-requires pack-requires same-length same-length-2 returns)
+put-at-spec = tie.close (tie.spec put-at-requires pack-requires same-length same-length-2 returns)

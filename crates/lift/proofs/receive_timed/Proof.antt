@@ -64,12 +64,13 @@ use Rattle.receiver.proofs.Carried.read as read
 use Rattle.receiver.proofs.Carried.read.Symbol as read-def
 use Rattle.receiver.proofs.Carried.read.Symbol.{name as #receiver·Carried·read}
 use Rattle.receiver.proofs.Carried.read.Met as read-thm
-use Rattle.lift.specs.InPlace.{isTaken, atOnce, Told, TakesIn, ReceivesIn}
+use Rattle.receiver.specs.Steps.{isTaken, atOnce}
+use Rattle.lift.specs.InPlace.{Told, TakesIn, ReceivesIn}
 use Rattle.lift.proofs.InPlace.{timed-part, timed-other}
-use Rattle.lift.proofs.is_taken as is-taken
-use Rattle.lift.proofs.is_taken.Symbol as is-taken-def
-use Rattle.lift.proofs.is_taken.Symbol.{name as #lift·is-taken}
-use Rattle.lift.proofs.is_taken.Met as is-taken-thm
+use Rattle.receiver.proofs.call.is_taken as is-taken
+use Rattle.receiver.proofs.call.is_taken.Symbol as is-taken-def
+use Rattle.receiver.proofs.call.is_taken.Symbol.{name as #receiver·call·is-taken}
+use Rattle.receiver.proofs.call.is_taken.Met as is-taken-thm
 use Rattle.lift.proofs.take as take
 use Rattle.lift.proofs.take.Symbol as take-def
 use Rattle.lift.proofs.take.Symbol.{name as #lift·take}
@@ -282,7 +283,7 @@ module _ {M : Type 1} (𝓤 : URA M) (H : Heap 𝓤) (A : Atoms 𝓤) (W : Given
   abbrev Byte : Ty
   Byte = tyRef erased mut (tyInt w8)
 
-  module _ (C : Calls 𝓤 H) (Λ : Loops 𝓤 H) (fm : FmC 𝓤 H (W .laws) C) (known-read : Triple 𝓤 (C #receiver·Carried·read) (Read 𝓤 H A at-mem run)) (known-is-taken : Triple 𝓤 (C #lift·is-taken) (IsTaken 𝓤 H A at-mem run))
+  module _ (C : Calls 𝓤 H) (Λ : Loops 𝓤 H) (fm : FmC 𝓤 H (W .laws) C) (known-read : Triple 𝓤 (C #receiver·Carried·read) (Read 𝓤 H A at-mem run)) (known-is-taken : Triple 𝓤 (C #receiver·call·is-taken) (IsTaken 𝓤 H A at-mem run))
       (known-take : Triple 𝓤 (C #lift·take) (Take 𝓤 H A at-mem run)) (known-answer : Triple 𝓤 (C #lift·answer) (Answer 𝓤 H A at-mem run)) where
     module _ (l₀ l₁ l₂ l₃ l₄ l₅ l₆ l₇ l₈ l₉ m₀ m₁ m₂ m₃ m₄ m₅ m₆ : ℕ) (c : Carried) (u : Val) (is : Is S.the-row c (u ∷ [])) (carries : Carries c (those present (h .gateways)) (cx .now) (fr .now)) where
       abbrev E : Env 𝓤 H
@@ -313,8 +314,8 @@ module _ {M : Type 1} (𝓤 : URA M) (H : Heap 𝓤) (A : Atoms 𝓤) (W : Given
           calls-at ! fm (Answer 𝓤 H A at-mem run) known-answer (to-answer c u) (and-then ! (load ! (from ! (stop !)) (look ! 25 refl)) (and-then ! (load ! (from ! (stop !)) (look ! 7 refl)) (no-more !))) (λ v.
           use1 W (later (some (λ (r : ℕ). ((‵ (flft κ₄ q₄) ⊛ ‵ ftrue) ⊛ ‵ (u32 .own r (v ∷ []))) ⊛ raw (ensured 𝓤 H A answer.ended (answer.clauses 𝓤 H A at-mem run) (κ₄, tt) (x-answer c u) tt r)))) (id⊢ 𝓤 _) $ await ! tt $ pick ! (λ r.
           -- what it ensures, at some last list
-          split ! $ move ! (1 ∷ []) $ use1 W (some (λ (zs : Lasts answer.ended (κ₄, tt) (x-answer c u)). ‵ (lasts answer.ended (κ₄, tt) (x-answer c u) zs) ⊛ raw (fact 𝓤 (Told r (ou .now) (zs .1 .0) (atOnce c))))) (id⊢ 𝓤 _) $ pick ! (λ zs.
-          split ! $ move ! (1 ∷ []) $ heard ! (Told r (ou .now) (zs .1 .0) (atOnce c)) (λ e. fsplit ! $ drop ! $ fsplit ! $ fsplit ! $ move ! (1 ∷ []) $ feqL ! (λ lo.
+          split ! $ move ! (1 ∷ []) $ use1 W (some (λ (zs : Lasts answer.ended (κ₄, tt) (x-answer c u)). ‵ (lasts answer.ended (κ₄, tt) (x-answer c u) zs) ⊛ raw (fact 𝓤 (Told r (ou .now) (zs .1 .0) (atOnce c (ou .now)))))) (id⊢ 𝓤 _) $ pick ! (λ zs.
+          split ! $ move ! (1 ∷ []) $ heard ! (Told r (ou .now) (zs .1 .0) (atOnce c (ou .now))) (λ e. fsplit ! $ drop ! $ fsplit ! $ fsplit ! $ move ! (1 ∷ []) $ feqL ! (λ lo.
           -- [out's last list; true; out's token and the answer; mem's token; mem's last list; Looks; Obs; Bor; Token; _16 at 9; …]
           move ! (2 ∷ []) $ split ! $ move ! (1 ∷ []) $ peeks ! u32 (Is u32) (shows 𝓤 H A u32) r (v ∷ []) (λ are.
           -- [the answer; out's token; out's last list; true; mem's token; mem's last list; Looks; Obs; Bor; Token; _16 at 10; …; _0 at 42; …; Contexts; Frame]
@@ -397,7 +398,7 @@ module _ {M : Type 1} (𝓤 : URA M) (H : Heap 𝓤) (A : Atoms 𝓤) (W : Given
         chooses l₀ l₁ l₂ l₃ l₄ l₅ l₆ l₇ l₈ l₉ m₀ m₁ m₂ m₃ m₄ m₅ m₆ c u is carries z same)))))))))))))))))))))))))))
 
 module _ {M : Type 1} (𝓤 : URA M) (H : Heap 𝓤) (A : Atoms 𝓤) (W : Given 𝓤 H A) (at-mem : Memory → SProp 𝓤) (run : Routine → Fun 𝓤) where
-  receive-timed-walks : (C : Calls 𝓤 H) (Λ : Loops 𝓤 H) → FmC 𝓤 H (W .laws) C → Triple 𝓤 (C #receiver·Carried·read) (Read 𝓤 H A at-mem run) → Triple 𝓤 (C #lift·is-taken) (IsTaken 𝓤 H A at-mem run) → Triple 𝓤 (C #lift·take) (Take 𝓤 H A at-mem run)
+  receive-timed-walks : (C : Calls 𝓤 H) (Λ : Loops 𝓤 H) → FmC 𝓤 H (W .laws) C → Triple 𝓤 (C #receiver·Carried·read) (Read 𝓤 H A at-mem run) → Triple 𝓤 (C #receiver·call·is-taken) (IsTaken 𝓤 H A at-mem run) → Triple 𝓤 (C #lift·take) (Take 𝓤 H A at-mem run)
       → Triple 𝓤 (C #lift·answer) (Answer 𝓤 H A at-mem run) → Walks 𝓤 H A f.ended stayed (WpFn 𝓤 H C Λ code.function) (f.clauses 𝓤 H A at-mem run)
   receive-timed-walks C Λ fm known-read known-is-taken known-take known-answer = walked 𝓤 H A f.ended stayed (f.clauses 𝓤 H A at-mem run) (WpFn 𝓤 H C Λ code.function) (λ κs. (ptr-vals, (uint-vals w64, (slice-vals, (slice-vals, (slice-vals, (slice-vals, tt)))))))
       (λ κs. (mut-tells (named 0) (κs .0) T.the-row, (uint-tells w64, (shr-slice-tells (named 1) (κs .1 .0) u8, (shr-slice-tells (named 2) (κs .1 .1 .0) u8, (mut-slice-tells (named 3) (κs .1 .1 .1 .0) u8, (mut-slice-tells (named 4) (κs .1 .1 .1 .1 .0) u8, tt)))))))
@@ -410,7 +411,7 @@ module _ {M : Type 1} (𝓤 : URA M) (H : Heap 𝓤) (A : Atoms 𝓤) (W : Given
   goes = (goes-gave-ref 𝓤 H A W 5 0 tt (plain (λ _. T.the-row)), (goes-none 𝓤 H A W 5 (λ _. u64) yes (λ κs x f. refl), (goes-none-slice 𝓤 H A W 5 (1 ∷ []) tt (plain (λ _. u8)) yes, (goes-none-slice 𝓤 H A W 5 (2 ∷ []) tt (plain (λ _. u8)) yes, (goes-gave-slice 𝓤 H A W 5 3 tt (plain (λ _. u8)), (goes-gave-slice 𝓤 H A W 5 4 tt (plain (λ _. u8)), tt))))))
 
 receive-timed-meets : {M : Type 1} (𝓤 : URA M) (H : Heap 𝓤) (A : Atoms 𝓤) (W : Given 𝓤 H A) (at-mem : Memory → SProp 𝓤) (run : Routine → Fun 𝓤) (𝓣 : Tables 𝓤 H)
-    → Triple 𝓤 (𝓣 .C #receiver·Carried·read) (Read 𝓤 H A at-mem run) → Triple 𝓤 (𝓣 .C #lift·is-taken) (IsTaken 𝓤 H A at-mem run) → Triple 𝓤 (𝓣 .C #lift·take) (Take 𝓤 H A at-mem run) → Triple 𝓤 (𝓣 .C #lift·answer) (Answer 𝓤 H A at-mem run)
+    → Triple 𝓤 (𝓣 .C #receiver·Carried·read) (Read 𝓤 H A at-mem run) → Triple 𝓤 (𝓣 .C #receiver·call·is-taken) (IsTaken 𝓤 H A at-mem run) → Triple 𝓤 (𝓣 .C #lift·take) (Take 𝓤 H A at-mem run) → Triple 𝓤 (𝓣 .C #lift·answer) (Answer 𝓤 H A at-mem run)
     → Meets 𝓤 H A f.signature (WpFn 𝓤 H (𝓣 .C) (𝓣 .Λ) code.function) (f.spec 𝓤 H A at-mem run)
 receive-timed-meets 𝓤 H A W at-mem run 𝓣 known-read known-is-taken known-take known-answer = walk-meets 𝓤 H A f.ended stayed W (goes 𝓤 H A W at-mem run) (f.clauses 𝓤 H A at-mem run) (WpFn 𝓤 H (𝓣 .C) (𝓣 .Λ) code.function) (WpFn-mono 𝓤 H (W .laws) 𝓣 code.function)
     (receive-timed-walks 𝓤 H A W at-mem run (𝓣 .C) (𝓣 .Λ) (fmOf 𝓤 H (W .laws) 𝓣) known-read known-is-taken known-take known-answer)
@@ -422,6 +423,6 @@ receive-timed-spec 𝓤 H 𝓜 𝓖 𝓡 =
     (tables 𝓤 H 𝓜 𝓡 code.env .C) (tables 𝓤 H 𝓜 𝓡 code.env .Λ) #lift·receive-timed code.function (code.unfolded 𝓤 H 𝓜 𝓡)
     (receive-timed-meets 𝓤 H (𝓖 .A) (givenOf 𝓤 H 𝓜 𝓖) (𝓜 .mem) (𝓡 .run) (tablesOf 𝓤 H 𝓜 (tables 𝓤 H 𝓜 𝓡 code.env))
     (cited 𝓤 H (Read 𝓤 H (𝓖 .A) (𝓜 .mem) (𝓡 .run)) 𝓜 𝓡 code.env #receiver·Carried·read read-def.routine code.calls-receiver·Carried·read (read-thm.met 𝓤 H 𝓜 𝓖 𝓡))
-    (cited 𝓤 H (IsTaken 𝓤 H (𝓖 .A) (𝓜 .mem) (𝓡 .run)) 𝓜 𝓡 code.env #lift·is-taken is-taken-def.routine code.calls-lift·is-taken (is-taken-thm.met 𝓤 H 𝓜 𝓖 𝓡))
+    (cited 𝓤 H (IsTaken 𝓤 H (𝓖 .A) (𝓜 .mem) (𝓡 .run)) 𝓜 𝓡 code.env #receiver·call·is-taken is-taken-def.routine code.calls-receiver·call·is-taken (is-taken-thm.met 𝓤 H 𝓜 𝓖 𝓡))
     (cited 𝓤 H (Take 𝓤 H (𝓖 .A) (𝓜 .mem) (𝓡 .run)) 𝓜 𝓡 code.env #lift·take take-def.routine code.calls-lift·take (take-thm.met 𝓤 H 𝓜 𝓖 𝓡))
     (cited 𝓤 H (Answer 𝓤 H (𝓖 .A) (𝓜 .mem) (𝓡 .run)) 𝓜 𝓡 code.env #lift·answer answer-def.routine code.calls-lift·answer (answer-thm.met 𝓤 H 𝓜 𝓖 𝓡)))

@@ -1,24 +1,22 @@
-use Rattle.expand.specs.Expand.{measured}
+use Rattle.expand.proofs.HeadedLaws.{expansion-long, on-expansion, no-expansion}
+use Rattle.expand.specs.Expand.{measured, answered, written}
 use mathlib.Core.Path.{refl}
 use denote.Ref.{now}
-use Rattle.expand.proofs.ExpandLaws.{expansion-long, on-expansion, no-expansion}
 use borrow.Author.Needs.{needs}
 use Rattle.expand.proofs.datagram.measure.Statement.{statement}
 use Rattle.expand.proofs.datagram.measure.Tie as tie
 
 returns : tie.Need-returns
-returns c =
-    let a = c .before .before .before .args in
-    rw (expansion-long (now (a .contexts)) (a .ll-src) (a .ll-dst) (a .size) (now (a .frame)) (a .c .at) (c .if1 .taken)) refl
+returns c = rw (expansion-long (now (c .before .before .before .args .contexts)) (c .before .before .before .args .ll-src) (c .before .before .before .args .ll-dst) (c .before .before .before .args .size) (now (c .before .before .before .args .frame)) (c .before .before .before .args .c .at) (c .if1 .taken)) refl
 
-read-headers-requires : tie.Need-read-headers-requires
-read-headers-requires c κs = search needs
+read-requires : tie.Need-read-requires
+read-requires c κs = search needs
 
-enum-known-h : tie.Need-enum-known-h
-enum-known-h c = search needs
+enum-known-ip : tie.Need-enum-known-ip
+enum-known-ip c = search needs
 
-measure-sized-requires : tie.Need-measure-sized-requires
-measure-sized-requires c κs = search needs
+measure-headed-requires : tie.Need-measure-headed-requires
+measure-headed-requires c κs = search needs
 
 enum-known-e : tie.Need-enum-known-e
 enum-known-e c = search needs
@@ -34,9 +32,9 @@ measure-spec =
     tie.close
     (tie.spec
     returns
-    read-headers-requires
-    enum-known-h
-    measure-sized-requires
+    read-requires
+    enum-known-ip
+    measure-headed-requires
     enum-known-e
     returns-2
     returns-3)

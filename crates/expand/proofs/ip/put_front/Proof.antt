@@ -1,6 +1,4 @@
-use Rattle.octets.proofs.Puts.{puts, told}
-use Rattle.expand.proofs.FullLaws.{full}
-use Rattle.expand.specs.Full.{frontBytes}
+use Rattle.expand.proofs.FullLaws.{front-put}
 use borrow.Author.Needs.{needs}
 use Rattle.expand.proofs.ip.put_front.Statement.{statement}
 use Rattle.expand.proofs.ip.put_front.Tie as tie
@@ -11,14 +9,20 @@ first-word-requires c κs = search needs
 put-be32-requires : tie.Need-put-be32-requires
 put-be32-requires c κs = search needs
 
+add-put-be16 : tie.Need-add-put-be16
+add-put-be16 c = search needs
+
 put-be16-requires : tie.Need-put-be16-requires
 put-be16-requires c κs = search needs
 
-next-of-requires : tie.Need-next-of-requires
-next-of-requires c κs = search needs
+add-put-byte : tie.Need-add-put-byte
+add-put-byte c = search needs
 
 put-byte-requires : tie.Need-put-byte-requires
 put-byte-requires c κs = search needs
+
+add-put-byte-2 : tie.Need-add-put-byte-2
+add-put-byte-2 c = search needs
 
 put-byte-requires-2 : tie.Need-put-byte-requires-2
 put-byte-requires-2 c κs = search needs
@@ -27,8 +31,7 @@ same-length : tie.Need-same-length
 same-length c = search needs
 
 returns : tie.Need-returns
-unfolding frontBytes
-returns c = search (puts, told, full)
+returns c = front-put _ _ (c .before .before .before .before .before .before .before .before .before .before .before .before .before .before .before .before .before .before .args .ip) _ _ _ _ _ _ _ (c .before .before .before .before .before .before .before .before .before .before .before .before .before .before .before .first-word .ensures) (c .before .before .before .before .before .before .before .before .before .before .before .before .before .before .put-be32 .ensures) (c .before .before .before .before .before .before .before .before .before .before .put-be16 .ensures) (c .before .before .before .before .before .before .put-byte .ensures) (c .before .before .put-byte2 .ensures)
 
 pub put-front-spec : {M : Type 1} → statement M
 put-front-spec =
@@ -36,9 +39,11 @@ put-front-spec =
     (tie.spec
     first-word-requires
     put-be32-requires
+    add-put-be16
     put-be16-requires
-    next-of-requires
+    add-put-byte
     put-byte-requires
+    add-put-byte-2
     put-byte-requires-2
     same-length
     returns)

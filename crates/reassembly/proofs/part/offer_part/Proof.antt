@@ -14,7 +14,7 @@ same-length c = search needs
 returns : tie.Need-returns
 returns c =
     let a = c .before .before .before .before .before .before .args in
-    does-repeat (a .s) (a .room .now) (partOf (a .s .key) (a .offset .0) (a .elided) (a .part .now)) (a .out .now) (sym (c .before .is-repeat .ensures) ∙ c .if1 .taken)
+    does-repeat (a .s) (a .room .now) (partOf (a .s .key) (a .offset .0) (a .sum) (a .part .now)) (a .out .now) (sym (c .before .is-repeat .ensures) ∙ c .if1 .taken)
 
 is-touching-requires : tie.Need-is-touching-requires
 is-touching-requires c κs = search needs
@@ -28,7 +28,7 @@ same-length-2 c = search needs
 returns-2 : tie.Need-returns-2
 returns-2 c =
     let a = c .before .before .before .before .before .before .before .before .before .before .args in
-    does-clash (a .s) (a .room .now) (partOf (a .s .key) (a .offset .0) (a .elided) (a .part .now)) (c .free .result) (a .out .now) (sym (c .before .before .before .before .before .is-repeat .ensures) ∙ c .before .before .before .before .if1 .left) (sym (c .before .before .is-touching .ensures) ∙ c .before .if2 .taken) (c .free .ensures)
+    does-clash (a .s) (a .room .now) (partOf (a .s .key) (a .offset .0) (a .sum) (a .part .now)) (c .free .result) (a .out .now) (sym (c .before .before .before .before .before .is-repeat .ensures) ∙ c .before .before .before .before .if1 .left) (sym (c .before .before .is-touching .ensures) ∙ c .before .if2 .taken) (c .free .ensures)
 
 place-part-requires : tie.Need-place-part-requires
 place-part-requires c κs = search needs
@@ -42,7 +42,7 @@ same-length-4 c = search needs
 returns-3 : tie.Need-returns-3
 returns-3 c =
     let a = c .before .before .before .before .before .before .before .before .before .before .before .before .before .before .before .before .args in
-    does-place (a .s) (a .room .now) (partOf (a .s .key) (a .offset .0) (a .elided) (a .part .now)) _ _ (a .out .now) _ (sym (c .before .before .before .before .before .before .before .before .before .before .before .is-repeat .ensures) ∙ c .before .before .before .before .before .before .before .before .before .before .if1 .left) (sym (c .before .before .before .before .before .before .before .before .is-touching .ensures) ∙ c .before .before .before .before .before .before .before .if2 .left) (c .before .before .before .before .place-part .ensures)
+    does-place (a .s) (a .room .now) (partOf (a .s .key) (a .offset .0) (a .sum) (a .part .now)) _ _ (a .out .now) _ (sym (c .before .before .before .before .before .before .before .before .before .before .before .is-repeat .ensures) ∙ c .before .before .before .before .before .before .before .before .before .before .if1 .left) (sym (c .before .before .before .before .before .before .before .before .is-touching .ensures) ∙ c .before .before .before .before .before .before .before .if2 .left) (c .before .before .before .before .place-part .ensures)
 
 pub offer-part-spec : {M : Type 1} → statement M
 offer-part-spec =

@@ -1,0 +1,68 @@
+use Rattle.expand.proofs.ChainLaws.{walks-unknown, walks-udp}
+use native.Mathlib.Omega.{arith}
+use lib.ListN.{length-drop}
+use denote.Ref.{now}
+use borrow.Author.Needs.{needs}
+use Rattle.expand.proofs.chain.end_udp.Statement.{statement}
+use Rattle.expand.proofs.chain.end_udp.Tie as tie
+
+is-unknown-requires : tie.Need-is-unknown-requires
+is-unknown-requires c κs = search needs
+
+returns : tie.Need-returns
+returns c = walks-unknown (c .before .before .before .before .args .w) (c .before .before .before .before .args .h) (now (c .before .before .before .before .args .frame)) (now (c .before .before .before .before .args .out)) (c .before .before .before .before .args .at) _ (c .before .is-unknown .ensures) (c .if1 .taken)
+
+cast-o : tie.Need-cast-o
+cast-o c = search needs
+
+less-requires : tie.Need-less-requires
+less-requires c κs = search needs
+
+put-udp-requires : tie.Need-put-udp-requires
+put-udp-requires c κs = search needs
+
+add-put-part : tie.Need-add-put-part
+add-put-part c = search needs
+
+put-part-requires : tie.Need-put-part-requires
+put-part-requires c κs = search needs
+
+sum-for-requires : tie.Need-sum-for-requires
+sum-for-requires c κs = search needs
+
+add-t14 : tie.Need-add-t14
+add-t14 c = search needs
+
+left-requires : tie.Need-left-requires
+left-requires c κs = search needs
+
+cast-t19 : tie.Need-cast-t19
+cast-t19 c = omega (arith, c .left .ensures, length-drop (c .before .before .before .before .before .before .before .before .before .before .before .before .before .before .before .before .before .args .at) (now (c .before .before .before .before .before .before .before .before .before .before .before .before .before .before .before .before .before .args .frame)), c .before .before .before .before .before .before .before .before .before .before .before .before .before .before .before .before .before .pre .1)
+
+add-t20 : tie.Need-add-t20
+add-t20 c = omega (arith, c .left .ensures, length-drop (c .before .before .before .before .before .before .before .before .before .before .before .before .before .before .before .before .before .args .at) (now (c .before .before .before .before .before .before .before .before .before .before .before .before .before .before .before .before .before .args .frame)), c .before .before .before .before .before .before .before .before .before .before .before .before .before .before .before .before .before .pre .0, c .before .before .before .before .before .before .before .before .before .before .before .before .before .before .before .before .before .pre .1)
+
+same-length : tie.Need-same-length
+same-length c = search needs
+
+returns-2 : tie.Need-returns-2
+returns-2 c = walks-udp (c .before .before .before .before .before .before .before .before .before .before .before .before .before .before .before .before .before .args .w) (c .before .before .before .before .before .before .before .before .before .before .before .before .before .before .before .before .before .args .h) (now (c .before .before .before .before .before .before .before .before .before .before .before .before .before .before .before .before .before .args .frame)) (now (c .before .before .before .before .before .before .before .before .before .before .before .before .before .before .before .before .before .args .out)) _ _ (c .before .before .before .before .before .before .before .before .before .before .before .before .before .before .before .before .before .args .at) _ _ _ _ (c .before .before .before .before .before .before .before .before .before .before .before .before .before .before .is-unknown .ensures) (c .before .before .before .before .before .before .before .before .before .before .before .before .before .if1 .left) (c .before .before .before .before .before .before .before .before .before .before .less .ensures) (c .before .before .before .before .before .before .before .before .before .put-udp .ensures) (c .before .before .before .before .before .put-part .ensures) (c .before .before .sum-for .ensures) (c .left .ensures)
+
+pub end-udp-spec : {M : Type 1} → statement M
+end-udp-spec =
+    tie.close
+    (tie.spec
+    is-unknown-requires
+    returns
+    cast-o
+    less-requires
+    put-udp-requires
+    add-put-part
+    put-part-requires
+    sum-for-requires
+    add-t14
+    left-requires
+    cast-t19
+    add-t20
+    same-length
+    returns-2)

@@ -1,0 +1,26 @@
+use Rattle.octets.proofs.Steps.{steps, flags}
+use Rattle.sixlowpan.proofs.NhcSteps.{nhc-steps}
+use Rattle.expand.specs.Chain.{udpStep}
+use borrow.Author.Needs.{needs}
+use Rattle.expand.proofs.chain.read_udp.Statement.{statement}
+use Rattle.expand.proofs.chain.read_udp.Tie as tie
+
+read-requires : tie.Need-read-requires
+read-requires c κs = search needs
+
+enum-known-h : tie.Need-enum-known-h
+enum-known-h c = search needs
+
+enum-known-e : tie.Need-enum-known-e
+enum-known-e c = search needs
+
+returns : tie.Need-returns
+unfolding udpStep
+returns c = search (steps, nhc-steps)
+
+returns-2 : tie.Need-returns-2
+unfolding udpStep
+returns-2 c = search (steps, nhc-steps)
+
+pub read-udp-spec : {M : Type 1} → statement M
+read-udp-spec = tie.close (tie.spec read-requires enum-known-h enum-known-e returns returns-2)

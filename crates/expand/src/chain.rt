@@ -1,0 +1,449 @@
+// The compressed headers behind an IPv6 header, and what each becomes (RFC 6282, 4.2; RFC 8200, 4): header reads chain, chain reads header,
+// each step with fewer bytes left.
+ghost use mathlib.Core.Path.{_≡_};
+ghost use mathlib.Core.Bool.{_&&_, _||_};
+ghost use Prim.Native.Nat.{ℕ, _≤_, _<_, _+_, _-_, _*_};
+ghost use lib.ListN.{length, getD, drop};
+ghost use lib.Dec.{eqb};
+ghost use Rattle.octets.specs.Read.{got};
+ghost use Rattle.octets.specs.Write.{put};
+ghost use Rattle.expand.specs.Full.{isAbsent};
+ghost use Rattle.expand.specs.Chain.{fullNumber, isPadded, badLength, fullSize, idAt, extKind, extData, extBody, innerByte, udpStep, link, inside, headerThen, behindNext, udpEnd, chain, nextNumber, sumFor, passed, entered, fewer, ofLink, around, rest, Walks};
+use super::checksum::UdpSum;
+use super::copy::left;
+use super::copy::put_part;
+use super::ip::full_size;
+use super::ip::put_extension;
+use super::ip::put_ipv6;
+use super::ip::put_udp;
+use ieee802154::Address;
+use ieee802154::addr::AddressField;
+use iphc::Parsed;
+use iphc::Repr;
+use octets::cursor::ByteRead;
+use octets::cursor::Cursor;
+use octets::cursor::Skipped;
+use octets::field::WordField;
+use octets::ipv6::Ipv6Addr;
+use octets::refusal::Refusal;
+use sixlowpan::NextHeader;
+use sixlowpan::nhc::ExtHeaderId;
+use sixlowpan::nhc::ExtHeaderRepr;
+use sixlowpan::nhc::ExtParsed;
+use sixlowpan::nhc::NhcAnswer;
+use sixlowpan::nhc::NhcPacket;
+use sixlowpan::nhc::UdpNhcRepr;
+use sixlowpan::nhc::UdpParsed;
+
+// What stands at a place of a chain, and the place behind it: a UDP header; an extension header, its number, its next header field and where
+// what follows its first two bytes stands; or the byte in front of an IPv6 header.
+pub enum Step {
+    Udp(UdpNhcRepr, usize),
+    Extension {
+        number: u8,
+        next: NextHeader,
+        from: usize,
+        to: usize,
+    },
+    Inner(usize),
+    Refused(Refusal),
+}
+
+// How far an expansion has come: the addresses of the IPv6 header just outside, whether a routing header came since, how many headers may
+// still come, and in the datagram, whose length is `total`, where that IPv6 header stands and where the next header goes.
+pub struct Way {
+    pub src: Ipv6Addr,
+    pub dst: Ipv6Addr,
+    pub routed: bool,
+    pub left: u8,
+    pub ip: u16,
+    pub at: u16,
+    pub total: u16,
+}
+
+// Where the datagram ends, or its first part, and what is to be remembered of its checksum.
+pub enum Walked {
+    End { len: u16, sum: UdpSum },
+    Refused(Refusal),
+}
+
+// The byte at a place, 0 past the end.
+fn byte_at(s: &[u8], at: usize) -> u8
+    ensures { λ r. ⌜ r ≡ getD (now (s .entry)) at 0 ⌝ }
+{
+    if at < s.len() { s[at] } else { 0 }
+}
+
+// The header that the byte at a place stands for, by its EID.
+fn id_at(frame: &[u8], at: usize) -> ExtHeaderId
+    ensures { λ r. ⌜ r ≡ idAt (now (frame .entry)) at ⌝ }
+{
+    let b = byte_at(frame, at);
+    ExtHeaderId::of_eid(b / 2 % 8)
+}
+
+// The number that an expanded header has. Mobility's is 135 here, where the ported mapping has 0.
+fn number_of(id: ExtHeaderId) -> u8
+    ensures { λ r. ⌜ r ≡ fullNumber id ⌝ }
+{
+    match id {
+        ExtHeaderId::HopByHopHeader => 0,
+        ExtHeaderId::RoutingHeader => 43,
+        ExtHeaderId::FragmentHeader => 44,
+        ExtHeaderId::DestinationOptionsHeader => 60,
+        ExtHeaderId::MobilityHeader => 135,
+        ExtHeaderId::Header => 41,
+        ExtHeaderId::Reserved => 0,
+    }
+}
+
+fn is_padded(id: ExtHeaderId) -> bool
+    ensures { λ r. ⌜ r ≡ isPadded id ⌝ }
+{
+    match id {
+        ExtHeaderId::HopByHopHeader => true,
+        ExtHeaderId::RoutingHeader => false,
+        ExtHeaderId::FragmentHeader => true,
+        ExtHeaderId::DestinationOptionsHeader => true,
+        ExtHeaderId::MobilityHeader => false,
+        ExtHeaderId::Header => true,
+        ExtHeaderId::Reserved => true,
+    }
+}
+
+// A routing or mobility header whose length is no multiple of eight with its first two bytes.
+fn is_bad(id: ExtHeaderId, n: u8) -> bool
+    ensures { λ r. ⌜ r ≡ badLength id n ⌝ }
+{
+    if is_padded(id) {
+        return false;
+    }
+    (2 + (n as usize)) % 8 != 0
+}
+
+// The number that stands for a compressed header in the next header field in front of it.
+pub(crate) fn next_number(frame: &[u8], next: NextHeader, at: usize) -> u8
+    ensures { λ r. ⌜ r ≡ nextNumber next (now (frame .entry)) at ⌝ }
+{
+    match next {
+        NextHeader::Uncompressed(p) => p.0,
+        NextHeader::Compressed => {
+            let b = byte_at(frame, at);
+            if b / 16 == 0b1110 {
+                return number_of(id_at(frame, at));
+            }
+            17
+        }
+    }
+}
+
+fn read_udp(frame: &[u8], c: Cursor) -> Step
+    ensures { λ r. ⌜ ofLink r (now (frame .entry)) ≡ udpStep (now (frame .entry)) (c .at) ⌝ }
+{
+    match UdpNhcRepr::read(frame, c) {
+        UdpParsed::Header(h, n) => Step::Udp(h, n),
+        UdpParsed::Refused(e) => Step::Refused(e),
+    }
+}
+
+// What follows next header and length.
+fn read_data(frame: &[u8], id: ExtHeaderId, h: ExtHeaderRepr, from: usize) -> Step
+    ensures { λ r. ⌜ ofLink r (now (frame .entry)) ≡ extData id h (now (frame .entry)) from ⌝ }
+{
+    if is_bad(id, h.length) {
+        return Step::Refused(Refusal::Unsupported);
+    }
+    let next = h.next_header;
+    let number = number_of(id);
+    let c = Cursor { at: from };
+    match c.skip(frame, h.length as usize) {
+        Skipped::Past(d) => Step::Extension {
+            number,
+            next,
+            from,
+            to: d.at,
+        },
+        Skipped::Refused(e) => Step::Refused(e),
+    }
+}
+
+fn read_body(frame: &[u8], id: ExtHeaderId, c: Cursor) -> Step
+    ensures { λ r. ⌜ ofLink r (now (frame .entry)) ≡ extBody id (now (frame .entry)) (c .at) ⌝ }
+{
+    match ExtHeaderRepr::read(frame, c) {
+        ExtParsed::Header(h, from) => read_data(frame, id, h, from),
+        ExtParsed::Refused(e) => Step::Refused(e),
+    }
+}
+
+// The byte in front of an IPv6 header.
+fn read_inner(frame: &[u8], c: Cursor) -> Step
+    ensures { λ r. ⌜ ofLink r (now (frame .entry)) ≡ innerByte (now (frame .entry)) (c .at) ⌝ }
+{
+    match c.byte(frame) {
+        ByteRead::Field(b, d) => {
+            if b % 2 == 0 {
+                return Step::Inner(d.at);
+            }
+            Step::Refused(Refusal::Unsupported)
+        }
+        ByteRead::Refused(e) => Step::Refused(e),
+    }
+}
+
+// An extension header, by its EID.
+fn read_extension(frame: &[u8], id: ExtHeaderId, c: Cursor) -> Step
+    ensures { λ r. ⌜ ofLink r (now (frame .entry)) ≡ extKind id (now (frame .entry)) (c .at) ⌝ }
+{
+    match id {
+        ExtHeaderId::HopByHopHeader => read_body(frame, id, c),
+        ExtHeaderId::RoutingHeader => read_body(frame, id, c),
+        ExtHeaderId::FragmentHeader => Step::Refused(Refusal::NotExpanded),
+        ExtHeaderId::DestinationOptionsHeader => read_body(frame, id, c),
+        ExtHeaderId::MobilityHeader => read_body(frame, id, c),
+        ExtHeaderId::Header => read_inner(frame, c),
+        ExtHeaderId::Reserved => Step::Refused(Refusal::NotExpanded),
+    }
+}
+
+// What stands at a place of a chain, where so many headers may still come.
+fn read_step(frame: &[u8], c: Cursor, left: u8) -> Step
+    ensures { λ r. ⌜ ofLink r (now (frame .entry)) ≡ link left (now (frame .entry)) (c .at) ⌝ }
+{
+    match NhcPacket::dispatch_at(frame, c) {
+        NhcAnswer::Is(kind) => match kind {
+            NhcPacket::UdpHeader => read_udp(frame, c),
+            NhcPacket::ExtHeader => {
+                if left == 0 {
+                    return Step::Refused(Refusal::Unsupported);
+                }
+                read_extension(frame, id_at(frame, c.at), c)
+            }
+        },
+        NhcAnswer::Refused(e) => Step::Refused(e),
+    }
+}
+
+// The link-layer address whose identifier is that of an IPv6 address: the universal/local bit is inverted.
+fn inside(a: Ipv6Addr) -> AddressField
+    ensures { λ r. ⌜ r ≡ inside a ⌝ }
+{
+    let i = a.iid;
+    if i / 0x200_0000_0000_0000 % 2 == 0 {
+        return AddressField::Some(Address::Extended(i + 0x200_0000_0000_0000));
+    }
+    AddressField::Some(Address::Extended(i - 0x200_0000_0000_0000))
+}
+
+// What a length field says: all that follows.
+fn less(total: u16, at: u16) -> u16
+    ensures { λ r. ⌜ r ≡ total - at ⌝ }
+{
+    if total < at { 0 } else { total - at }
+}
+
+fn is_elided(sum: WordField) -> bool
+    ensures { λ r. ⌜ r ≡ isAbsent sum ⌝ }
+{
+    match sum {
+        WordField::None => true,
+        WordField::Some(_) => false,
+    }
+}
+
+// How many bytes stand between two places.
+fn span(from: usize, to: usize) -> usize
+    ensures { λ r. ⌜ r ≡ to - from ⌝ }
+{
+    if to < from { 0 } else { to - from }
+}
+
+// The payload, to the end of the frame.
+fn end_rest(frame: &[u8], at: usize, w: Way, out: &mut [u8]) -> Walked
+    requires { ⌜ (w .at ≤ 447) × (length (now frame) ≤ 127) ⌝ }
+    ensures { λ r. ⌜ ((p n : ℕ) → Walks r w (got (rest p (drop at (now (frame .entry)))) n) (now (out .entry)) (now (out .exit))) ⌝ }
+{
+    let o = w.at as usize;
+    put_part(out, o, frame, at, frame.len());
+    let sum = UdpSum::NONE;
+    Walked::End {
+        len: w.at + (left(frame, at) as u16),
+        sum,
+    }
+}
+
+// Whether a checksum was elided behind a routing header.
+fn is_unknown(routed: bool, sum: WordField) -> bool
+    ensures { λ r. ⌜ r ≡ (routed && isAbsent sum) ⌝ }
+{
+    if routed {
+        return is_elided(sum);
+    }
+    false
+}
+
+// What is to be remembered of a checksum: nothing behind a routing header.
+fn sum_for(w: Way, sum: WordField) -> UdpSum
+    ensures { λ r. ⌜ r ≡ sumFor (w .routed) (w .ip) (w .at) sum ⌝ }
+{
+    if w.routed {
+        return UdpSum {
+            kind: 0,
+            ip: 0,
+            udp: 0,
+        };
+    }
+    if is_elided(sum) {
+        return UdpSum {
+            kind: 1,
+            ip: w.ip,
+            udp: w.at,
+        };
+    }
+    UdpSum {
+        kind: 2,
+        ip: w.ip,
+        udp: w.at,
+    }
+}
+
+// A UDP header and its data, to the end of the frame.
+fn end_udp(frame: &[u8], at: usize, h: UdpNhcRepr, w: Way, out: &mut [u8]) -> Walked
+    requires { ⌜ (w .at ≤ 447) × (length (now frame) ≤ 127) ⌝ }
+    ensures { λ r. ⌜ Walks r w (udpEnd (around w) h (now (frame .entry)) at) (now (out .entry)) (now (out .exit)) ⌝ }
+{
+    let checksum = h.checksum;
+    if is_unknown(w.routed, checksum) {
+        return Walked::Refused(Refusal::NotExpanded);
+    }
+    let o = w.at as usize;
+    put_udp(out, o, h, less(w.total, w.at));
+    put_part(out, o + 8, frame, at, frame.len());
+    let sum = sum_for(w, checksum);
+    Walked::End {
+        len: w.at + 8 + (left(frame, at) as u16),
+        sum,
+    }
+}
+
+impl Way {
+    // Behind an extension header of a number, with so many bytes behind its first two.
+    fn past(self, number: u8, len: usize) -> Way
+        requires { ⌜ (self .at + fullSize len ≤ 65535) × (len ≤ 255) × (1 ≤ self .left) ⌝ }
+        ensures { λ r. ⌜ r ≡ passed number len self ⌝ }
+    {
+        let mut v = self;
+        v.routed = is_routed(number, self.routed);
+        v.left = self.left - 1;
+        v.at = self.at + (full_size(len) as u16);
+        v
+    }
+
+    // Inside an IPv6 header.
+    fn within(self, ip: Repr) -> Way
+        requires { ⌜ self .at + 40 ≤ 65535 ⌝ }
+        ensures { λ r. ⌜ r ≡ entered ip self ⌝ }
+    {
+        let src = ip.src_addr;
+        let dst = ip.dst_addr;
+        Way {
+            src,
+            dst,
+            routed: false,
+            left: self.left,
+            ip: self.at,
+            at: self.at + 40,
+            total: self.total,
+        }
+    }
+
+    // With one header fewer to come.
+    fn fewer(self) -> Way
+        requires { ⌜ 1 ≤ self .left ⌝ }
+        ensures { λ r. ⌜ r ≡ fewer self ⌝ }
+    {
+        let mut v = self;
+        v.left = self.left - 1;
+        v
+    }
+}
+
+// Whether a routing header came, this one or one before.
+fn is_routed(number: u8, routed: bool) -> bool
+    ensures { λ r. ⌜ r ≡ (eqb number 43 || routed) ⌝ }
+{
+    if number == 43 {
+        return true;
+    }
+    routed
+}
+
+// An IPv6 header inside another one, and the chain behind it.
+pub(crate) fn header(frame: &[u8], c: Cursor, contexts: &[u8], w: Way, out: &mut [u8]) -> Walked
+    requires { ⌜ (w .at + 40 * (w .left + 1) + (length (now frame) - c .at) ≤ 447) × (length (now frame) ≤ 127) ⌝ }
+    ensures { λ r. ⌜ Walks r w (headerThen (now (contexts .entry)) (inside (w .src)) (inside (w .dst)) (chain (w .left) (now (contexts .entry))) (now (frame .entry)) (c .at)) (now (out .entry)) (now (out .exit)) ⌝ }
+{
+    let src = w.src;
+    let dst = w.dst;
+    match Repr::read(frame, c, inside(src), inside(dst), contexts) {
+        Parsed::Header(ip, at) => {
+            let next = ip.next_header;
+            let o = w.at;
+            put_ipv6(
+                out,
+                o as usize,
+                ip,
+                next_number(frame, next, at),
+                less(w.total, o + 40),
+            );
+            chain(frame, next, Cursor { at }, contexts, w.within(ip), out)
+        }
+        Parsed::Refused(e) => Walked::Refused(e),
+    }
+}
+
+// What follows a next header field at a place of the frame: the payload, where it stood inline; else a compressed header, and what follows that.
+pub(crate) fn chain(
+    frame: &[u8],
+    next: NextHeader,
+    c: Cursor,
+    contexts: &[u8],
+    w: Way,
+    out: &mut [u8],
+) -> Walked
+    requires { ⌜ (w .at + 40 * w .left + (length (now frame) - c .at) ≤ 447) × (length (now frame) ≤ 127) ⌝ }
+    ensures { λ r. ⌜ Walks r w (behindNext next (chain (w .left) (now (contexts .entry)) (around w)) (now (frame .entry)) (c .at)) (now (out .entry)) (now (out .exit)) ⌝ }
+{
+    match next {
+        NextHeader::Uncompressed(_) => end_rest(frame, c.at, w, out),
+        NextHeader::Compressed => match read_step(frame, c, w.left) {
+            Step::Udp(h, n) => end_udp(frame, n, h, w, out),
+            Step::Extension {
+                number,
+                next: then,
+                from,
+                to,
+            } => {
+                let len = span(from, to);
+                put_extension(
+                    out,
+                    w.at as usize,
+                    next_number(frame, then, to),
+                    frame,
+                    from,
+                    len,
+                );
+                chain(
+                    frame,
+                    then,
+                    Cursor { at: to },
+                    contexts,
+                    w.past(number, len),
+                    out,
+                )
+            }
+            Step::Inner(n) => header(frame, Cursor { at: n }, contexts, w.fewer(), out),
+            Step::Refused(e) => Walked::Refused(e),
+        },
+    }
+}
