@@ -26,8 +26,8 @@ struct lent {
   struct slice mem, out;
 };
 
-// Answers: 0 the part is kept; 1 to 15 the refusal; 256 + L a datagram of L bytes stands at the output's start.
-enum { KEPT = 0, NO_ROOM = 7, EARLIER = 8, NOT_GATEWAY = 9, BAD_PART = 10, CLASH = 11, NO_SLOT = 12, OUT = 256 };
+// Answers: 0 the part is kept; 1 to 17 the refusal; 256 + L a datagram of L bytes stands at the output's start.
+enum { KEPT = 0, NO_ROOM = 7, EARLIER = 8, NOT_GATEWAY = 9, BAD_PART = 10, CLASH = 11, NO_SLOT = 12, WRONG_SUM = 17, OUT = 256 };
 
 // A run of calls: a fresh table, the calls of `first` at time 0, then those of `lap` at times 1, 2 and so on.
 struct calls {

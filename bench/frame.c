@@ -291,6 +291,8 @@ static void check_drawn(bool depths) {
     printf(", no %zu %llu", r, (unsigned long long)seen[r]);
     if (seen[r] == 0) fail("a refusal never came up", "drawn");
   }
+  printf(", no 17 %llu", (unsigned long long)seen[WRONG_SUM]);
+  if (seen[WRONG_SUM] == 0) fail("17 never came up", "drawn");
   printf("; lists of gateways refused (14) %zu\n", bad_lists);
 }
 

@@ -119,17 +119,19 @@ static uint64_t read_relays(struct rest *r, struct mac *m) {
   return 0;
 }
 
-// IPHC and UDP NHC, expanded to an IPv6 header and a UDP header.
+// IPHC, extension headers and UDP NHC, expanded.
 
 struct contexts {
   const uint8_t *of; // 8 bytes each
   size_t count;
 };
 
-enum { IPV6 = 40, UDP = 48, UDP_NUMBER = 17, HEADERS = 48, LONGEST = 127 };
+enum { IPV6 = 40, UDP = 8, UDP_NUMBER = 17, IPV6_NUMBER = 41, MOST_HEADERS = 8, LONGEST = 455 };
 
-// An IPv6 address by context or link-local, of mode 01 to 11 or, carried in full, 00.
-static uint64_t read_unicast(struct rest *r, bool by_context, unsigned mode, unsigned number, const struct contexts *c, const struct address *link, uint8_t *ip) {
+// An IPv6 address by context or link-local, of mode 01 to 11 or, carried in full, 00. An elided one is made of the
+// link-layer address or, where there is one, of the enclosing IPv6 header's.
+static uint64_t read_unicast(struct rest *r, bool by_context, unsigned mode, unsigned number, const struct contexts *c, const struct address *link,
+                             const uint8_t *enclosing, uint8_t *ip) {
   static const uint8_t link_local[8] = {0xfe, 0x80}, from_short[6] = {0, 0, 0, 0xff, 0xfe, 0};
   const uint8_t *p;
   if (mode == 0) {
@@ -144,6 +146,8 @@ static uint64_t read_unicast(struct rest *r, bool by_context, unsigned mode, uns
     if ((p = take(r, 2)) == NULL) return CUT_SHORT;
     memcpy(ip + 8, from_short, 6);
     memcpy(ip + 14, p, 2);
+  } else if (enclosing != NULL) {
+    memcpy(ip + 8, enclosing + 8, 8);
   } else if (link->kind == 0) {
     return NO_ADDRESS;
   } else if (link->kind == 1) {
@@ -190,8 +194,8 @@ static bool read_traffic(struct rest *r, unsigned tf, uint8_t *ip) {
   return true;
 }
 
-// The IPHC header into an IPv6 header without its payload length. *udp: whether the next header is compressed too.
-static uint64_t read_iphc(struct rest *r, const struct mac *m, const struct contexts *c, uint8_t *ip, bool *udp) {
+// The IPHC header into an IPv6 header without its payload length. *more: whether the next header is compressed too.
+static uint64_t read_iphc(struct rest *r, const struct mac *m, const struct contexts *c, const uint8_t *enclosing, uint8_t *ip, bool *more) {
   static const uint8_t hops[4] = {0, 1, 64, 255};
   const uint8_t *p, *h = take(r, 2);
   if (h == NULL) return CUT_SHORT;
@@ -202,9 +206,8 @@ static uint64_t read_iphc(struct rest *r, const struct mac *m, const struct cont
     identifiers = *p;
   }
   if (!read_traffic(r, h[0] >> 3 & 3, ip)) return CUT_SHORT;
-  *udp = h[0] & 4;
-  ip[6] = UDP_NUMBER;
-  if (!*udp) {
+  *more = h[0] & 4;
+  if (!*more) {
     if ((p = take(r, 1)) == NULL) return CUT_SHORT;
     ip[6] = *p;
   }
@@ -218,12 +221,12 @@ static uint64_t read_iphc(struct rest *r, const struct mac *m, const struct cont
   if (sac && sam == 0) {
     memset(ip + 8, 0, 16);
   } else {
-    uint64_t no = read_unicast(r, sac, sam, identifiers >> 4, c, &m->src.address, ip + 8);
+    uint64_t no = read_unicast(r, sac, sam, identifiers >> 4, c, &m->src.address, enclosing == NULL ? NULL : enclosing + 8, ip + 8);
     if (no != 0) return no;
   }
   if (dac && (many || dam == 0)) return BAD_MODE;
   if (many) return read_multicast(r, dam, ip + 24);
-  return read_unicast(r, dac, dam, identifiers & 15, c, &m->dst, ip + 24);
+  return read_unicast(r, dac, dam, identifiers & 15, c, &m->dst, enclosing == NULL ? NULL : enclosing + 24, ip + 24);
 }
 
 // The compressed UDP header into a UDP header without its length.
@@ -231,7 +234,6 @@ static uint64_t read_udp(struct rest *r, uint8_t *udp, bool *elided) {
   static const uint8_t carried[4] = {4, 3, 3, 1};
   const uint8_t *h = take(r, 1);
   if (h == NULL) return CUT_SHORT;
-  if (*h >> 4 == 14) return NOT_TAKEN;
   if (*h >> 3 != 30) return OTHER_BITS;
   unsigned ports = *h & 3;
   const uint8_t *p = take(r, carried[ports]);
@@ -255,46 +257,117 @@ static uint64_t read_udp(struct rest *r, uint8_t *udp, bool *elided) {
   return 0;
 }
 
+// An extension header behind its first byte; *n: its bytes in full.
+static uint64_t read_extension(struct rest *r, bool options, bool more, uint8_t *to, size_t *n) {
+  const uint8_t *p;
+  if (!more) {
+    if ((p = take(r, 1)) == NULL) return CUT_SHORT;
+    to[0] = *p;
+  }
+  if ((p = take(r, 1)) == NULL) return CUT_SHORT;
+  size_t length = *p, pad = (6 - length) & 7;
+  if (!options && pad != 0) return BAD_MODE;
+  if ((p = take(r, length)) == NULL) return CUT_SHORT;
+  memcpy(to + 2, p, length);
+  to += 2 + length;
+  memset(to, 0, pad);
+  if (pad > 1) {
+    to[0] = 1;
+    to[1] = (uint8_t)(pad - 2);
+  }
+  *n = 2 + length + pad;
+  (to - 2 - length)[1] = (uint8_t)(*n / 8 - 1);
+  return 0;
+}
+
 // Headers in full; what is left of r follows them.
 struct expanded {
   size_t headers, total; // their bytes, and all bytes
-  bool udp, elided;
+  size_t tunnels, ip[MOST_HEADERS]; // where IPv6 headers begin
+  size_t udp;                       // where the UDP header begins, 0 for none
+  struct sum sum;
 };
 
 static uint64_t read_headers(struct rest *r, const struct mac *m, const struct contexts *c, uint8_t *to, struct expanded *e) {
-  e->elided = false;
-  uint64_t no = read_iphc(r, m, c, to, &e->udp);
-  if (no == 0 && e->udp) no = read_udp(r, to + IPV6, &e->elided);
-  e->headers = e->udp ? UDP : IPV6;
-  e->total = e->headers + r->left;
-  return no;
+  static const uint8_t numbers[5] = {0, 43, 0, 60, 135};
+  bool more, elided, routed = false;
+  uint64_t no = read_iphc(r, m, c, NULL, to, &more);
+  if (no != 0) return no;
+  uint8_t *next = to + 6; // where the number of the following header goes
+  size_t at = IPV6, ip = 0, length;
+  e->ip[0] = 0;
+  e->tunnels = 1;
+  e->udp = 0;
+  e->sum = (struct sum){NONE, 0, 0};
+  for (unsigned headers = 1; more; headers++) {
+    if (r->left == 0) return CUT_SHORT;
+    uint8_t h = r->at[0];
+    if (h >> 4 != 14) {
+      if ((no = read_udp(r, to + at, &elided)) != 0) return no;
+      if (elided && routed) return NOT_TAKEN;
+      *next = UDP_NUMBER;
+      e->udp = at;
+      if (!routed) e->sum = (struct sum){elided ? ELIDED : CARRIED, (uint16_t)ip, (uint16_t)at};
+      at += UDP;
+      break;
+    }
+    if (headers == MOST_HEADERS) return BAD_MODE;
+    unsigned eid = h >> 1 & 7;
+    more = h & 1;
+    take(r, 1);
+    if (eid == 7) {
+      if (more) return BAD_MODE;
+      if ((no = read_iphc(r, m, c, to + ip, to + at, &more)) != 0) return no;
+      *next = IPV6_NUMBER;
+      next = to + at + 6;
+      routed = false;
+      e->ip[e->tunnels++] = ip = at;
+      at += IPV6;
+    } else {
+      if (eid > 4 || eid == 2) return NOT_TAKEN;
+      if ((no = read_extension(r, eid == 0 || eid == 3, more, to + at, &length)) != 0) return no;
+      *next = numbers[eid];
+      next = to + at;
+      routed |= eid == 1;
+      at += length;
+    }
+  }
+  e->headers = at;
+  e->total = at + r->left;
+  return 0;
+}
+
+static void put_16(uint8_t *to, size_t n) {
+  to[0] = (uint8_t)(n >> 8);
+  to[1] = (uint8_t)n;
 }
 
 // The lengths of a datagram of so many bytes.
 static void put_lengths(uint8_t *to, const struct expanded *e, size_t size) {
-  to[4] = (uint8_t)((size - IPV6) >> 8);
-  to[5] = (uint8_t)(size - IPV6);
-  if (e->udp) memcpy(to + 44, to + 4, 2);
+  for (size_t i = 0; i < e->tunnels; i++) put_16(to + e->ip[i] + 4, size - e->ip[i] - IPV6);
+  if (e->udp != 0) put_16(to + e->udp + 4, size - e->udp);
 }
 
 static uint64_t receive_whole(struct rest *r, const struct mac *m, const struct contexts *c, uint8_t *out) {
-  uint8_t headers[HEADERS];
+  uint8_t headers[LONGEST];
   struct expanded e;
   uint64_t no = read_headers(r, m, c, headers, &e);
   if (no != 0) return no;
   put_lengths(headers, &e, e.total);
+  if (is_wrong(headers, e.headers, r->at, e.total, &e.sum)) return WRONG_SUM;
   memcpy(out, headers, e.headers);
   memcpy(out + e.headers, r->at, r->left);
-  if (e.elided) put_checksum(out, e.total);
+  if (e.sum.kind == ELIDED) put_checksum(out, e.total, &e.sum);
   return OUT + e.total;
 }
 
 static uint64_t receive_fragment(struct table *t, uint64_t time, struct rest *r, const struct mac *m, const struct contexts *c, const struct lent *l) {
-  uint8_t first[HEADERS + LONGEST];
+  uint8_t first[LONGEST];
   const uint8_t *h = take(r, 4), *offset;
   if (h == NULL) return CUT_SHORT;
   struct key key = {m->src, m->dst, (uint16_t)((h[0] & 7) << 8 | h[1]), (uint16_t)(h[2] << 8 | h[3])};
   struct call part = {.size = key.size};
+  struct sum sum = {NONE, 0, 0};
   if (h[0] >> 3 == 28) {
     if ((offset = take(r, 1)) == NULL) return CUT_SHORT;
     if (*offset == 0) return BAD_PART;
@@ -307,10 +380,10 @@ static uint64_t receive_fragment(struct table *t, uint64_t time, struct rest *r,
     if (e.total > key.size) return BAD_PART;
     put_lengths(first, &e, key.size);
     memcpy(first + e.headers, r->at, r->left);
-    part.elided = e.elided;
+    sum = e.sum;
     part.part = (struct slice){first, e.total};
   }
-  return take_part(t, time, &key, &part, l);
+  return take_part(t, time, &key, &part, &sum, l);
 }
 
 static uint64_t receive_at(struct table *t, uint64_t time, const struct frame_call *f, const struct lent *l) {

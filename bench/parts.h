@@ -6,13 +6,13 @@ static uint64_t receive_at(struct table *t, uint64_t time, const struct call *c,
   if (early != 0) return early;
   struct key key = {.src = {{1, c->src}, 0}, .dst = {1, c->dst}, .size = c->size, .tag = c->tag};
   if (!is_gateway(t, &key.src)) return NOT_GATEWAY;
-  return take_part(t, time, &key, c, l);
+  return take_part(t, time, &key, c, &(struct sum){c->elided ? ELIDED : NONE, 0, 40}, l);
 }
 
 static void fresh(void *table) {
   struct table *t = table;
   memset(t, 0, sizeof *t);
-  for (size_t i = 0; i < 4; i++) t->gateways[i] = (struct address){1, i + 1};
+  for (size_t i = 0; i < 4; i++) t->gateways[i] = (struct source){{1, i + 1}, 0};
 }
 
 static uint64_t receive(void *table, const struct call *c, const struct lent *l) { return receive_at(table, c->time, c, l); }

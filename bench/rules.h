@@ -20,11 +20,17 @@ struct key {
   uint16_t size, tag;
 };
 
+// A checksum to care for, and where in the datagram its UDP header and the IPv6 header just outside begin.
+struct sum {
+  enum { NONE, ELIDED, CARRIED } kind;
+  uint16_t ip, udp;
+};
+
 struct slot {
   bool live;
   struct key key;
   uint64_t since;
-  bool elided;
+  struct sum sum;
   Marks covered; // units that were taken
   Marks starts;  // units at which a part that was taken starts
 };
@@ -104,41 +110,66 @@ static bool is_span(const struct slot *s, size_t u, size_t e) {
   return e == 256 || !marked(&s->covered, e) || marked(&s->starts, e);
 }
 
-// The checksum of RFC 768 over the whole datagram, at its place.
-static void put_checksum(uint8_t *d, size_t n) {
-  if (n < 48) return;
-  d[46] = d[47] = 0;
-  uint64_t sum = n - 40 + 17;
-  for (size_t i = 8; i + 1 < n; i += 2) sum += (uint64_t)d[i] << 8 | d[i + 1];
-  if (n % 2) sum += (uint64_t)d[n - 1] << 8;
-  while (sum >> 16) sum = (sum & 0xffff) + (sum >> 16);
-  if (sum != 0xffff) sum = 0xffff - sum;
-  d[46] = (uint8_t)(sum >> 8);
-  d[47] = (uint8_t)sum;
+// The checksum of RFC 768. Words are added up as they stand, and their carries at the end.
+static uint64_t words(const uint8_t *d, size_t n) {
+  uint64_t sum = 0;
+  for (size_t i = 0; i + 1 < n; i += 2) sum += (uint64_t)d[i] << 8 | d[i + 1];
+  return n % 2 ? sum + ((uint64_t)d[n - 1] << 8) : sum;
 }
 
-// Takes a part that touches nothing taken; full cover hands the datagram out and frees the slot.
-static uint64_t place(struct slot *s, uint8_t *room, const struct call *c, uint8_t *out) {
+// The words of a datagram of n bytes that a checksum goes over, the pseudo-header's among them: the datagram's headers
+// and, apart from them, the rest.
+static uint64_t summed(const uint8_t *headers, size_t length, const uint8_t *rest, size_t n, const struct sum *s) {
+  uint64_t sum = n - s->udp + 17 + words(rest, n - length);
+  if (s->udp == s->ip + 40) return sum + words(headers + s->ip + 8, length - s->ip - 8);
+  return sum + words(headers + s->ip + 8, 32) + words(headers + s->udp, length - s->udp);
+}
+
+static uint64_t folded(uint64_t sum) {
+  while (sum >> 16) sum = (sum & 0xffff) + (sum >> 16);
+  return sum;
+}
+
+// The checksum of a whole datagram at its place.
+static void put_checksum(uint8_t *d, size_t n, const struct sum *s) {
+  if (n < s->udp + 8u) return;
+  d[s->udp + 6] = d[s->udp + 7] = 0;
+  uint64_t sum = folded(summed(d, n, d + n, n, s));
+  if (sum != 0xffff) sum = 0xffff - sum;
+  d[s->udp + 6] = (uint8_t)(sum >> 8);
+  d[s->udp + 7] = (uint8_t)sum;
+}
+
+// Whether a carried checksum is wrong: with it, the words must come to ffff, and it is never 0.
+static bool is_wrong(const uint8_t *headers, size_t length, const uint8_t *rest, size_t n, const struct sum *s) {
+  if (s->kind != CARRIED) return false;
+  return (headers[s->udp + 6] | headers[s->udp + 7]) == 0 || folded(summed(headers, length, rest, n, s)) != 0xffff;
+}
+
+// Takes a part that touches nothing taken; full cover hands the datagram out, or refuses it, and frees the slot.
+static uint64_t place(struct slot *s, uint8_t *room, const struct call *c, const struct sum *sum, uint8_t *out) {
   size_t u = c->offset, size = c->size;
   memcpy(room + 8 * u, c->part.at, c->part.size);
   mark(&s->covered, u, u + units(c->part.size));
   mark(&s->starts, u, u + 1);
-  if (u == 0) s->elided = c->elided;
+  if (u == 0) s->sum = *sum;
   if (has_mark(&s->covered, false, 0, units(size))) return KEPT;
-  memcpy(out, room, size);
-  if (s->elided) put_checksum(out, size);
+  struct sum whole = s->sum;
   free_slot(s);
+  if (is_wrong(room, size, room + size, size, &whole)) return WRONG_SUM;
+  memcpy(out, room, size);
+  if (whole.kind == ELIDED) put_checksum(out, size, &whole);
   return OUT + size;
 }
 
-static uint64_t offer(struct slot *s, uint8_t *room, const struct call *c, uint8_t *out) {
+static uint64_t offer(struct slot *s, uint8_t *room, const struct call *c, const struct sum *sum, uint8_t *out) {
   size_t u = c->offset, e = u + units(c->part.size);
   if (is_span(s, u, e) && memcmp(room + 8 * u, c->part.at, c->part.size) == 0) return KEPT;
   if (has_mark(&s->covered, true, u, e)) {
     free_slot(s);
     return CLASH;
   }
-  return place(s, room, c, out);
+  return place(s, room, c, sum, out);
 }
 
 static bool is_gateway(const struct table *t, const struct source *a) {
@@ -157,11 +188,11 @@ static uint64_t take_time(struct table *t, uint64_t time, const struct lent *l) 
   return 0;
 }
 
-// A part of a gateway: checks 10 to 12.
-static uint64_t take_part(struct table *t, uint64_t time, const struct key *key, const struct call *c, const struct lent *l) {
+// A part of a gateway: checks 10 to 12, and 17.
+static uint64_t take_part(struct table *t, uint64_t time, const struct key *key, const struct call *c, const struct sum *sum, const struct lent *l) {
   if (!fits(c->size, (size_t)c->offset * 8, c->part.size)) return BAD_PART;
   for (size_t i = 0; i < 8; i++)
-    if (t->slots[i].live && same_key(&t->slots[i].key, key)) return offer(&t->slots[i], l->mem.at + 2048 * i, c, l->out.at);
+    if (t->slots[i].live && same_key(&t->slots[i].key, key)) return offer(&t->slots[i], l->mem.at + 2048 * i, c, sum, l->out.at);
   size_t i = to_open(t, &key->src);
   if (i == 8) return NO_SLOT;
   struct slot *s = &t->slots[i];
@@ -169,5 +200,5 @@ static uint64_t take_part(struct table *t, uint64_t time, const struct key *key,
   s->live = true;
   s->key = *key;
   s->since = time;
-  return place(s, l->mem.at + 2048 * i, c, l->out.at);
+  return place(s, l->mem.at + 2048 * i, c, sum, l->out.at);
 }

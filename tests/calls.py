@@ -6,7 +6,7 @@
 The program reads the lines that README.md describes. Unlike a capture a run has contexts, extended addresses, short
 rooms, frames over 127 bytes, times of 64 bits and lists of gateways good and bad, and its answers show the datagrams and
 the open slots; with --counts, for a program over the C library (library.c), how many slots are free and how many each
-gateway of the list holds, in place of the slots. At the first difference the run is made as small as it can be and still differ, saved, both answers are
+gateway of the list holds, in place of the slots, and an Adler-32 of the lent memory. At the first difference the run is made as small as it can be and still differ, saved, both answers are
 shown, and the status is 1.
 """
 
@@ -16,6 +16,7 @@ import os
 import random
 import subprocess
 import sys
+import zlib
 
 import frames as f
 import model
@@ -148,16 +149,26 @@ def expected(lines, table=model):
     return [over.answer(line).rstrip() for line in lines]
 
 
-def counted(lines, answers):
-    """The answers to these lines with counts of slots in place of the open slots: the free ones, then each gateway's."""
+def watched(lines, table=model):
+    """The answers, each with a check of the output and of the memory as the call left them."""
+    over, answers = table.TableLines(), []
+    for line in lines:
+        answers.append((over.answer(line).rstrip(), zlib.adler32(over.out), zlib.adler32(over.mem[:model.LENT_BYTES])))
+    return answers
+
+
+def counted(lines):
+    """model.py's answers to these lines with counts of slots in place of the open slots: the free ones, then each
+    gateway's; and the check of the memory."""
     gateways, said = None, []
-    for line, answer in zip(lines, answers):
+    for line, (answer, _, memory) in zip(lines, watched(lines)):
         if answer == "ok":
             gateways = line.split(" ")[1:]
         head, bar, slots = answer.partition(" |")
         if line.startswith("call ") and bar:
             owners = [slot.split(":", 1)[1].split(",")[0] for slot in slots.split()]
             answer = " ".join([head, "|", str(8 - len(owners))] + [str(owners.count(one)) for one in gateways])
+            answer += f" {memory:08x}"
         said.append(answer)
     return said
 
@@ -181,7 +192,7 @@ def program(path):
 
 def by_model(counts):
     """What the lines are answered by model.py, in the form asked for."""
-    return (lambda lines: counted(lines, expected(lines))) if counts else expected
+    return counted if counts else expected
 
 
 def first_difference(answer, right, seed, numbers):

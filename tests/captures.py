@@ -110,7 +110,7 @@ def damage(rng, blocks):
     at = rng.randrange(len(blocks))
     block = blocks[at]
     count = len(block.frames)
-    kind = rng.choice((*range(20), 0, 1, 3, 3, 3, 4, 7, 8))
+    kind = rng.choice((*range(20), 0, 0, 1, 3, 3, 3, 4, 7, 8, 9))
     value = rng.choice((1, 0x80, 0xff, rng.randrange(1, 256)))
     if kind == 0:
         blocks[at] = block.copy(number=rng.choice((at + 1, max(0, at - 1), at << 8, at << 24 & TOP, 0xffffffff, at ^ 0x100,

@@ -2,7 +2,7 @@
 """Writes the examples: for each a text of frames, the capture that make-capture makes of it, and the lines model.py says.
 
     examples.py write     writes them
-    examples.py check     makes them anew and compares; where target/bin/heard is built, has it read them too
+    examples.py check     makes them anew and compares; where target/run/heard is built, has it read them too
 """
 
 import os
@@ -15,8 +15,8 @@ import model
 
 TOP = os.path.join(os.path.dirname(os.path.abspath(__file__)), "..")
 FOLDER = os.path.join(TOP, "examples")
-HEARD = os.path.join(TOP, "target", "bin", "heard")
-CALLS = os.path.join(TOP, "target", "bin", "calls")
+HEARD = os.path.join(TOP, "target", "run", "heard")
+CALLS = os.path.join(TOP, "target", "run", "calls")
 
 CONTROLLER = f.short(0xabcd)
 LAST_MONTH, THIS_MONTH, NEIGHBOUR = f.short(1), f.short(2), f.short(0x1234)
@@ -88,6 +88,7 @@ def damaged():
     mac = f.mac(LAST_MONTH, CONTROLLER)
     other = second[:-1] + bytes([second[-1] ^ 1])
     small = patch_block(THIS_MONTH, "hello", 60)
+    bent = small[:50] + bytes([small[50] ^ 0x20]) + small[51:]
     secured = f.mac(THIS_MONTH, CONTROLLER, 9, version=1, security=bytes.fromhex("0d0100000001"))
     lines += [
         line(1000, first, "the first part: bytes 0 to 55"),
@@ -103,6 +104,7 @@ def damaged():
         line(1070, first, "the first part again"),
         line(1080, second, "the second part again: now the datagram is whole"),
         line(1090, f.whole(small, THIS_MONTH, CONTROLLER), "a datagram in one frame"),
+        line(1095, f.whole(bent, THIS_MONTH, CONTROLLER), "the same with a bit of its data turned: its checksum does not hold"),
         line(1100, mac + b"\x41" + small, "IPv6 that is not compressed"),
         "block",
         line(1110, f.whole(small, THIS_MONTH, CONTROLLER), "a good frame, but the frame check of its block is wrong"),
@@ -165,8 +167,49 @@ def relay():
     ]
 
 
+SERVER = f.ip("2001:db8::5e")
+RPL = bytes.fromhex("6304001e0203")        # RFC 6553: the RPL option, instance 1e, rank 0203
+
+
+def routed():
+    """The datagrams of `chain`: one that a router has marked with a hop-by-hop option, and one that came from a server far
+    away, in an IPv6 header from the gateway to the controller and with that option."""
+    gateway, controller = f.link_local(LAST_MONTH), f.link_local(CONTROLLER)
+    option = ("ext", f.HOP_BY_HOP, RPL)
+    alert = bytes.fromhex("05020001")      # RFC 2711: the router alert option
+    small = f.chained([("ip", gateway, controller, {}), ("ext", f.HOP_BY_HOP, alert),
+                       ("udp", 0xf0b1, 0xf0b2, None)], None, b"doors of floor 12 are shut")
+    words = "PATCH 2026-11 block 6 of 40\n"
+    data = words.encode() + random.Random(words).randbytes(400 - 96 - len(words))
+    block = f.chained([("ip", gateway, controller, {}), option, ("ip", SERVER, controller, {"hop": 61}),
+                       ("udp", 0xf0b1, 0xf0b2, None)], None, data)
+    return small, block
+
+
+def chain():
+    """A building whose routers mark datagrams with hop-by-hop options, and tunnel what comes from outside."""
+    small, block = routed()
+    mac = f.mac(LAST_MONTH, CONTROLLER)
+    parts = f.frames(block, 0x0011, LAST_MONTH, CONTROLLER, limit=100, chain=7, elide=True)
+    hops = f.extension_nhc(0, b"")
+    outer = bytes.fromhex("7e33")
+    return [
+        "# Extension headers: a datagram with a hop-by-hop option in one frame, and one in a tunnel, in parts.",
+        line(1000, f.whole(small, LAST_MONTH, CONTROLLER, chain=7), "a hop-by-hop option of four octets, then UDP"),
+        line(1010, parts[0], "a tunnel: IPv6, hop-by-hop, IPv6 from 2001:db8::5e, UDP without its checksum; the first part"),
+        line(1020, parts[2], "the third part"),
+        line(1025, parts[1], "the second"),
+        line(1030, mac + outer + f.extension_nhc(2, bytes(6)) + b"\xf7\x12", "a fragment header in a chain: not expanded"),
+        line(1035, mac + outer + f.extension_nhc(1, bytes(6)) + b"\xf7\x12",
+             "no checksum, and a routing header before it: the last destination is not known"),
+        line(1040, mac + outer + 7 * hops + b"\xf7\x12", "eight headers and UDP"),
+        line(1045, mac + outer + 8 * hops + b"\xf7\x12", "nine headers"),
+        line(1050, mac + outer + f.extension_nhc(1, bytes(5)) + b"\xf7\x12", "a routing header of seven octets"),
+    ] + [line(1060 + 10 * i, part, "the rest of the tunnelled block") for i, part in enumerate(parts[3:])]
+
+
 EXAMPLES = {"patch": patch, "two-gateways": two_gateways, "two-buildings": two_buildings, "damaged": damaged, "witness": witness,
-            "relay": relay}
+            "relay": relay, "chain": chain}
 
 
 def printed(capture):
@@ -191,10 +234,22 @@ def both_come_out():
     return 0
 
 
+def tunnelled_comes_out():
+    """What comes out of `chain` is what was sent, to the byte."""
+    text = "\n".join(["gateways s0001@abcd"] + [f"call {' '.join(line.split()[:2])} - 16384 2047" for line in chain() if line[0] != "#"])
+    for program in [[CALLS]] * os.path.exists(CALLS) + [[sys.executable, model.__file__, "table"]]:
+        told = subprocess.run(program, input=text + "\n", stdout=subprocess.PIPE, check=True, text=True).stdout
+        for datagram in routed():
+            if f"\nout {len(datagram)} {datagram.hex()} |" not in told:
+                print(f"{program[-1]}: a datagram of chain does not come out as it was sent")
+                return 1
+    return 0
+
+
 def main(arguments):
     if arguments not in (["write"], ["check"]):
         sys.exit(__doc__)
-    wrong = both_come_out()
+    wrong = both_come_out() + tunnelled_comes_out()
     for name, make in EXAMPLES.items():
         text = "\n".join(make()) + "\n"
         capture = subprocess.run([os.path.join(FOLDER, "make-capture")], input=text.encode(), stdout=subprocess.PIPE,
@@ -216,7 +271,7 @@ def main(arguments):
     if not wrong:
         read = ", and heard prints their lines" if os.path.exists(HEARD) else ""
         print("written" if arguments == ["write"] else f"{len(EXAMPLES)} examples as written{read}")
-    sys.exit(wrong)
+    sys.exit(1 if wrong else 0)
 
 
 if __name__ == "__main__":

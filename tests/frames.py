@@ -1,6 +1,6 @@
 """Builds IEEE 802.15.4 frames from IPv6 datagrams, from the standards: the MAC header of IEEE 802.15.4 (7.2), the
-fragment headers of RFC 4944 5.3, IPHC and UDP NHC of RFC 6282. It shares nothing with model.py, so that a datagram that
-comes back whole says something about both.
+fragment headers of RFC 4944 5.3, IPHC, extension header NHC and UDP NHC of RFC 6282. It shares nothing with model.py, so
+that a datagram that comes back whole says something about both.
 
 A link-layer address is its bytes, most significant first: 2 for a short one, 8 for an extended one, none for absent.
 An IPv6 address is its 16 bytes. Every knob has the value a usual sender would choose.
@@ -44,7 +44,10 @@ def ip(text):
 # ---------------------------------------------------------------------------------------------------------- datagrams
 
 def iid(link):
-    """The interface identifier of a link-layer address (RFC 6282 3.2.2, RFC 4291 appendix A)."""
+    """The interface identifier of a link-layer address (RFC 6282 3.2.2, RFC 4291 appendix A); of the IPv6 address of an
+    enclosing header, its last 64 bits."""
+    if len(link) == 16:
+        return link[8:]
     if len(link) == 8:
         return bytes([link[0] ^ 0x02]) + link[1:]
     return bytes.fromhex("000000fffe00") + link
@@ -80,6 +83,46 @@ def udp_datagram(src, dst, src_port, dst_port, data, checksum=None, **others):
     if checksum is None:
         checksum = udp_checksum(src, dst, struct.pack(">HHHH", src_port, dst_port, length, 0) + data)
     return datagram(src, dst, 17, struct.pack(">HHHH", src_port, dst_port, length, checksum) + data, **others)
+
+
+# RFC 8200 4.1 and RFC 6275: numbers of next headers, and which of them are options headers.
+HOP_BY_HOP, UDP, TUNNELED, ROUTING, DESTINATION, MOBILITY = 0, 17, 41, 43, 60, 135
+OPTIONS = (HOP_BY_HOP, DESTINATION)
+# RFC 8200 4.2: the one option that fills up 0 to 7 bytes.
+PADS = [bytes.fromhex(text) for text in ("", "00", "0100", "010100", "01020000", "0103000000", "010400000000",
+                                         "01050000000000")]
+
+
+def extension(number, next_header, content):
+    """An extension header in full; one of options is padded, another must come out at a multiple of eight octets."""
+    if number in OPTIONS:
+        content = content + PADS[-(2 + len(content)) % 8]
+    units, rest = divmod(2 + len(content), 8)
+    if rest or not units:
+        raise ValueError("no multiple of eight octets")
+    return bytes([next_header, units - 1]) + content
+
+
+def chained(layers, next_header, payload):
+    """A datagram from its layers, the outermost first, with a payload of this next header behind them. A layer is
+    ("ip", src, dst, others), ("ext", number, content) or ("udp", src_port, dst_port, checksum), with None for the right
+    checksum: that of the bytes from it to the end, with the addresses of the IPv6 header just outside."""
+    for at in range(len(layers) - 1, -1, -1):
+        kind, *fields = layers[at]
+        if kind == "ip":
+            src, dst, others = fields
+            next_header, payload = TUNNELED, datagram(src, dst, next_header, payload, **others)
+        elif kind == "ext":
+            number, content = fields
+            next_header, payload = number, extension(number, next_header, content) + payload
+        else:
+            src_port, dst_port, checksum = fields
+            _, src, dst, _ = [layer for layer in layers[:at] if layer[0] == "ip"][-1]
+            head = struct.pack(">HHH", src_port, dst_port, 8 + len(payload))
+            if checksum is None:
+                checksum = udp_checksum(src, dst, head + b"\0\0" + payload)
+            next_header, payload = UDP, head + struct.pack(">H", checksum) + payload
+    return payload
 
 
 # --------------------------------------------------------------------------------------------------------- MAC header
@@ -237,14 +280,77 @@ def udp_nhc(src_port, dst_port, checksum, plain_ports=False):
     return nhc if checksum is None else nhc + struct.pack(">H", checksum)
 
 
-def compress(packet, link_src, link_dst, nhc=True, elide=False, plain_ports=False, **knobs):
+EID = {HOP_BY_HOP: 0, ROUTING: 1, DESTINATION: 3, MOBILITY: 4}
+
+
+def extension_nhc(eid, content, next_header=None, length=None):
+    """RFC 6282 4.2: 1110, EID, NH; the next header unless it is compressed (None); how many octets follow; these."""
+    head = bytes([0xe0 | eid << 1 | (next_header is None)])
+    if next_header is not None:
+        head += bytes([next_header])
+    return head + bytes([len(content) if length is None else length]) + content
+
+
+def last_pad(body):
+    """The length of the last option, if these are options (RFC 8200 4.2) and the last one is a pad; else 0."""
+    at = length = 0
+    while at < len(body):
+        length = 1 if body[at] == 0 else 2 + body[at + 1] if at + 1 < len(body) else len(body) + 1
+        at += length
+    return length if at == len(body) and length < 8 and body.endswith(PADS[length]) else 0
+
+
+def options_forms(body):
+    """What may stand for the options behind the first two bytes of a header: first without the pad at their end, as a
+    sender would write it; then without any bytes at their end that come back by themselves; then all of them."""
+    ends = ([last_pad(body)] if last_pad(body) else []) + [n for n in range(7, 0, -1) if body.endswith(PADS[n])]
+    return [body[:len(body) - n] for n in ends] + [body]
+
+
+def headers_of(packet, chain, nhc):
+    """The headers of a datagram that can be compressed, as (number, place, end): at most `chain` behind the outer one,
+    and a UDP header. Each must be whole, and an inner IPv6 or UDP header say the length that is there."""
+    found, number, at = [(TUNNELED, 0, 40)], packet[6], 40
+    while True:
+        size, left = 0, len(packet) - at
+        if number == UDP and nhc and left >= 8 and int.from_bytes(packet[at + 4:at + 6], "big") == left:
+            return found + [(UDP, at, at + 8)]
+        if len(found) > chain:
+            return found
+        if number == TUNNELED and left >= 40 and packet[at] >> 4 == 6 \
+                and int.from_bytes(packet[at + 4:at + 6], "big") == left - 40:
+            size, following = 40, packet[at + 6]
+        elif number in EID and left >= 8:
+            size, following = 8 * packet[at + 1] + 8, packet[at]
+        if size == 0 or size > min(left, 256):
+            return found
+        found.append((number, at, at + size))
+        number, at = following, at + size
+
+
+def compress(packet, link_src, link_dst, nhc=True, elide=False, plain_ports=False, chain=0, pads=0, careless=False,
+             **knobs):
     """The compressed headers of a datagram and how many of its bytes they stand for. A UDP header can be compressed only
-    if its length is that of the payload (RFC 6282 4.3.1)."""
-    if nhc and packet[6] == 17 and len(packet) >= 48 and packet[44:46] == packet[4:6]:
-        src_port, dst_port, _, checksum = struct.unpack(">HHHH", packet[40:48])
-        header = iphc(packet, link_src, link_dst, compressed_next=True, **knobs)
-        return header + udp_nhc(src_port, dst_port, None if elide else checksum, plain_ports), 48
-    return iphc(packet, link_src, link_dst, **knobs), 40
+    if its length is that of the payload (RFC 6282 4.3.1). At most `chain` headers between the outer one and it are
+    compressed; `pads` picks among the forms of options, 0 the usual one. Behind a routing header no checksum is elided,
+    unless the sender is `careless`."""
+    plan = headers_of(packet, chain, nhc)
+    around, written, routed = (link_src, link_dst), b"", False
+    for i, (number, at, end) in enumerate(plan):
+        compressed_next = i + 1 < len(plan)
+        if number == TUNNELED:
+            written += b"\xee" if i else b""
+            written += iphc(packet[at:], *around, compressed_next=compressed_next, **knobs)
+            around, routed = (packet[at + 8:at + 24], packet[at + 24:at + 40]), False
+        elif number == UDP:
+            src_port, dst_port, _, checksum = struct.unpack(">HHHH", packet[at:end])
+            written += udp_nhc(src_port, dst_port, None if elide and (careless or not routed) else checksum, plain_ports)
+        else:
+            body = packet[at + 2:end]
+            forms = options_forms(body) if number in OPTIONS else [body]
+            written += extension_nhc(EID[number], forms[pads % len(forms)], None if compressed_next else packet[at])
+            routed = routed or number == ROUTING
+    return written, plan[-1][2]
 
 
 # ------------------------------------------------------------------------------------------------------------- frames
@@ -334,6 +440,19 @@ def check():
     assert mac(short(0x1234), BROADCAST, None, version=2).hex() == "41a9cdabffff3412"
     assert mesh(short(1), short(0xabcd), 5).hex() == "b50001abcd"
     assert (mesh(extended(1), BROADCAST, 15) + broadcast(0x42)).hex() == "9f0f0000000000000001ffff5042"
+    # Chains: hop-by-hop of no options, then UDP; a routing header, its next header inline; a tunnel.
+    s, d = ip("fe80::211:2233:4455:6677"), ip("fe80::ff:fe00:abcd")
+    hop = chained([("ip", s, d, {}), ("ext", HOP_BY_HOP, b""), ("udp", 0xf0b1, 0xf0b2, 0x1234)], None, b"\xaa")
+    assert hop[40:].hex() == "1100010400000000" "f0b1f0b200091234aa" and hop[4:7].hex() == "001100"
+    assert compress(hop, ext, abcd, chain=7)[0].hex() == "7e33" "e100" "f3121234"
+    assert compress(hop, ext, abcd, chain=7, pads=3)[0].hex() == "7e33" "e106010400000000" "f3121234"
+    assert compress(hop, ext, abcd)[0].hex() == "7a3300"
+    alert = chained([("ip", s, d, {}), ("ext", HOP_BY_HOP, bytes.fromhex("05020001"))], 58, b"")
+    assert alert[40:].hex() == "3a00050200010100" and compress(alert, ext, abcd, chain=7)[0].hex() == "7e33" "e03a0405020001"
+    route = chained([("ip", s, d, {}), ("ext", ROUTING, bytes(6))], 58, b"")
+    assert compress(route, ext, abcd, chain=7) == (bytes.fromhex("7e33" "e23a06000000000000"), 48)
+    tunnel = chained([("ip", s, ip("ff02::1"), {}), ("ip", s, ip("fe80::1"), {"hop": 255})], 59, b"")
+    assert compress(tunnel, ext, BROADCAST, chain=7) == (bytes.fromhex("7e3b01" "ee" "7b333b"), 80)
     # RFC 768's sum, worked by hand: ::1 to ::1, ports 1 and 2, no data: 1+1+8+17+1+2+8 = 38, so ffd9.
     assert udp_datagram(ip("::1"), ip("::1"), 1, 2, b"")[46:48].hex() == "ffd9"
     print("ok")

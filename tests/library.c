@@ -1,8 +1,9 @@
 /* library: the lines of tests/README.md over the C library (include/lift.h), for tests/calls.py --counts. A call's answer is followed by ` |`, the
- * number of free slots and, for each gateway of the list, the number that it holds, in place of the open slots, which the interface does not show.
+ * number of free slots and, for each gateway of the list, the number that it holds, in place of the open slots, which the interface does not show;
+ * then the Adler-32 of the memory's first 16,384 bytes.
  *
- * It looks at every lent byte: where a call that is refused has changed a byte of the memory or of the output, where one that keeps a part has
- * changed the output, or where one that hands out a datagram has changed a byte behind it, the answer ends in ` wrote`. What is lent has just the
+ * It looks at every lent byte: where a call that is refused (but with 17) has changed a byte of the memory, where one that is refused or keeps a part
+ * has changed the output, or where one that hands out a datagram has changed a byte behind it, the answer ends in ` wrote`. What is lent has just the
  * length that the line says, in memory of its own, so that a run under a checker of memory sees each byte past an end. */
 #include "../include/lift.h"
 
@@ -10,7 +11,7 @@
 #include <stdlib.h>
 #include <string.h>
 
-enum { LINE = 1 << 17, MOST_ROOM = 65536, MOST_GATEWAYS = 64 };
+enum { LINE = 1 << 17, MOST_ROOM = 65536, MOST_GATEWAYS = 64, WRONG_SUM = 17 };
 
 static char line[LINE];
 static lift_table table;
@@ -112,11 +113,21 @@ static void counts(void) {
   }
 }
 
+/* Adler-32 (RFC 1950) of what every call is lent */
+static uint32_t adler(void) {
+  uint32_t a = 1, b = 0;
+  for (size_t i = 0; i < LIFT_MEM_BYTES; i++) {
+    a = (a + memory[i]) % 65521;
+    b = (b + a) % 65521;
+  }
+  return b << 16 | a;
+}
+
 /* a byte that no call may have changed has changed */
 static int wrote(uint32_t answer, const uint8_t *mem, size_t mem_len, const uint8_t *out, const uint8_t *before, size_t out_len) {
   size_t from = lift_kind(answer) == LIFT_OUT ? lift_number(answer) : 0;
-  int kept = lift_kind(answer) == LIFT_REFUSED && memcmp(mem, memory, mem_len) != 0;
-  return kept || from > out_len || memcmp(out + from, before + from, out_len - from) != 0;
+  int refused = lift_kind(answer) == LIFT_REFUSED && lift_number(answer) != WRONG_SUM;
+  return (refused && memcmp(mem, memory, mem_len) != 0) || from > out_len || memcmp(out + from, before + from, out_len - from) != 0;
 }
 
 static void call(uint64_t time, const uint8_t *frame, size_t frame_len, const uint8_t *contexts, size_t contexts_len, size_t mem_len, size_t out_len) {
@@ -137,8 +148,9 @@ static void call(uint64_t time, const uint8_t *frame, size_t frame_len, const ui
       printf("no %u", (unsigned)lift_number(answer));
   }
   counts();
-  puts(wrote(answer, mem, mem_len, out, before, out_len) ? " wrote" : "");
+  int too_much = wrote(answer, mem, mem_len, out, before, out_len);
   memcpy(memory, mem, mem_len);
+  printf(" %08x%s\n", (unsigned)adler(), too_much ? " wrote" : "");
   free(mem);
   free(out);
   free(before);

@@ -1,13 +1,14 @@
 #!/usr/bin/env python3
-"""A second reading of document 01 (what we will build and its rules), in plain Python.
+"""A second reading of documents 01 (what we will build and its rules) and 02 (change requests), in plain Python.
 
 It was written from the documents alone, never from the product's text, so that a difference between the two says
-something. Each function quotes the sentence of 01 that it renders. It is slow and simple on purpose: a slot keeps the
-list of the parts it has taken, with their bytes, and no marks for units.
+something. Each function quotes the sentence that it renders. It is slow and simple on purpose: a slot keeps the list of
+the parts it has taken, with their bytes, and no marks for units; an expansion first reads all compressed headers into a
+list and then writes them.
 
     model.py heard < capture     the lines that `heard` prints for a capture
     model.py table < calls       the slot table, a call a line (README.md has the lines)
-    model.py check               the marked examples of 01 that a receiver can show
+    model.py check               the marked examples of 01 that a receiver can show, and some of 02 worked by hand
 
 A link-layer address is its bytes, most significant first: 2 for a short one, 8 for an extended one, none for an absent
 one. `None` stands where the frame type has no addressing.
@@ -30,6 +31,8 @@ LONGEST_FRAME = 127        # "frame over 127"
 IPV6_HEADER = 40
 UDP_HEADER = 8
 UDP = 17
+IPV6 = 41                  # an IPv6 header as a next header
+MOST_HEADERS = 8           # "At most eight headers in all, the outer IPv6 one counted, UDP not"
 
 
 class Refused(Exception):
@@ -232,15 +235,18 @@ def context(contexts, number):
 
 def interface_identifier(address):
     """RFC 6282 3.2.2: from the extended address with its universal/local bit turned, or 0000:00ff:fe00:XXXX from the
-    short one. "6: a needed link-layer address is absent"."""
+    short one. "6: a needed link-layer address is absent". "In an inner header elided addresses come from the enclosing
+    IPv6 header": of 16 bytes it is the last 64 bits, whatever they are."""
     if not address:
         raise Refused(6)
+    if len(address) == 16:
+        return address[8:]
     if len(address) == 2:
         return bytes.fromhex("000000fffe00") + address
     return bytes([address[0] ^ 2]) + address[1:]
 
 
-def read_unicast(reader, by_context, mode, number, contexts, link_address):
+def read_unicast(reader, by_context, mode, number, contexts, around):
     """"an elided address with a context needs the link-layer address first (6), then the context (5); an inline one
     needs its bytes first (1), then 5." The caller has dealt with mode 00 where a context is used."""
     if mode == 0:
@@ -250,7 +256,7 @@ def read_unicast(reader, by_context, mode, number, contexts, link_address):
     elif mode == 2:
         iid = bytes.fromhex("000000fffe00") + reader.take(2)
     else:
-        iid = interface_identifier(link_address)
+        iid = interface_identifier(around)
     prefix = context(contexts, number) if by_context else bytes.fromhex("fe80000000000000")
     return prefix + iid
 
@@ -280,8 +286,9 @@ class Iphc:
     length: int
 
 
-def read_iphc(data, link_src, link_dst, contexts):
-    """RFC 6282 3.1.1, in the order of its fields. "A read with TF=11 gives no ecn, dscp or flow label; ecn keeps its
+def read_iphc(data, around_src, around_dst, contexts):
+    """RFC 6282 3.1.1, in the order of its fields. The addresses around it are those of the link layer, or in an inner
+    header those of the enclosing IPv6 header. "A read with TF=11 gives no ecn, dscp or flow label; ecn keeps its
     place in the top two bits." 02, item 1: "RFC 6282 gives 20 bits" of flow label, "padding bits stay ignored". "M=1
     with DAC=1 is refused (3)." "Absent fields are 0" once expanded, so they are 0 here."""
     if len(data) < 2:
@@ -315,14 +322,14 @@ def read_iphc(data, link_src, link_dst, contexts):
     if sac and sam == 0:
         src = bytes(16)
     else:
-        src = read_unicast(reader, sac, sam, src_context, contexts, link_src)
+        src = read_unicast(reader, sac, sam, src_context, contexts, around_src)
 
     if dac and (m or dam == 0):
         raise Refused(3)
     if m:
         dst = read_multicast(reader, dam)
     else:
-        dst = read_unicast(reader, dac, dam, dst_context, contexts, link_dst)
+        dst = read_unicast(reader, dac, dam, dst_context, contexts, around_dst)
     return Iphc(src, dst, next_header, hop_limit, ecn, dscp, flow, reader.at)
 
 
@@ -334,14 +341,13 @@ class UdpNhc:
     dst_port: int
     checksum: object       # a number, or None where it is elided
     length: int
+    judged: bool = True    # False behind a routing header, where no checksum is cared for
 
 
 def read_udp_nhc(data):
-    """"UDP 11110 C P" (RFC 6282 4.3). "An extension header is refused (13) at its first byte." """
+    """"UDP 11110 C P" (RFC 6282 4.3)."""
     reader = Reader(data)
     head = reader.byte()
-    if head >> 4 == 0b1110:
-        raise Refused(13)
     if head >> 3 != 0b11110:
         raise Refused(2)
     ports = head & 3
@@ -361,6 +367,84 @@ def read_udp_nhc(data):
     return UdpNhc(src, dst, checksum, reader.at)
 
 
+# ---------------------------------------------------------------------------------------- extension headers (02, item 5)
+
+# RFC 6282 4.2, EID: the header's number as a next header. "chains of hop-by-hop, routing, destination options and
+# mobility (135)"; "13 remains for the fragment EID, EID 5 and 6".
+HOP_BY_HOP, ROUTING, DESTINATION_OPTIONS, MOBILITY = 0, 43, 60, 135
+EXTENSIONS = {0: HOP_BY_HOP, 1: ROUTING, 3: DESTINATION_OPTIONS, 4: MOBILITY}
+ANOTHER_IPHC = 7
+OPTIONS = (HOP_BY_HOP, DESTINATION_OPTIONS)
+
+
+@dataclass(frozen=True)
+class Extension:
+    number: int            # its own, as a next header
+    next_header: object    # a number, or None where it is compressed
+    body: bytes            # what stands behind its first two bytes, padded
+
+
+def padding(count):
+    """"Options headers are padded to eight octets: Pad1 for one byte, PadN for more." RFC 8200 4.2: Pad1 is a byte of 0;
+    PadN is 1, the number of bytes behind these two, and as many bytes of 0."""
+    if count < 2:
+        return bytes(count)
+    return bytes([1, count - 2]) + bytes(count - 2)
+
+
+def read_extension(reader, number, compressed):
+    """RFC 6282 4.2 behind the first byte: the next header unless that is compressed; "the number of octets that pertain
+    to the (compressed) extension header following the Length field"; these. "A routing or mobility header whose length
+    isn't a multiple of eight with its first two bytes is refused": "3 [..] for a bad routing or mobility length before
+    its bytes are taken"."""
+    next_header = None if compressed else reader.byte()
+    length = reader.byte()
+    if number not in OPTIONS and (length + 2) % 8 != 0:
+        raise Refused(3)
+    body = reader.take(length)
+    if number in OPTIONS:
+        body += padding(-(length + 2) % 8)
+    return Extension(number, next_header, body)
+
+
+def read_headers(payload, link_src, link_dst, contexts):
+    """The compressed headers of a datagram, the outermost first, and what follows them. "The byte of EID 7 is followed
+    directly by another IPHC header (RFC 6282 4.2), which may again have a chain". An inline next header ends the chain.
+    "Refusals: 3 for the ninth header before its EID is judged, for EID 7 with NH set, and for a bad routing or mobility
+    length before its bytes are taken." "13 remains for the fragment EID, EID 5 and 6", at their first byte, "and an
+    elided checksum with a routing header between it and that IPv6 header", once the UDP header has been read."""
+    around = read_iphc(payload, link_src, link_dst, contexts)
+    reader = Reader(payload, around.length)
+    headers = [around]
+    routed = False         # a routing header has come since the IPv6 header `around`
+    while headers[-1].next_header is None:
+        head = Reader(reader.rest()).byte()
+        if head >> 4 != 0b1110:
+            udp = read_udp_nhc(reader.rest())
+            reader.take(udp.length)
+            if udp.checksum is None and routed:
+                raise Refused(13)
+            headers.append(replace(udp, judged=not routed))
+            break
+        if len(headers) == MOST_HEADERS:
+            raise Refused(3)
+        reader.take(1)
+        eid, compressed = head >> 1 & 7, head & 1
+        if eid == ANOTHER_IPHC:
+            if compressed:
+                raise Refused(3)
+            around = read_iphc(reader.rest(), around.src, around.dst, contexts)
+            reader.take(around.length)
+            headers.append(around)
+            routed = False
+        elif eid in EXTENSIONS:
+            headers.append(read_extension(reader, EXTENSIONS[eid], compressed))
+            routed = routed or EXTENSIONS[eid] == ROUTING
+        else:
+            raise Refused(13)
+    return headers, reader.rest()
+
+
 # ---------------------------------------------------------------------------------------------------------- expansion
 
 def ones_sum(data):
@@ -375,60 +459,126 @@ def ones_sum(data):
     return total
 
 
-def udp_checksum(datagram):
+@dataclass(frozen=True)
+class Sum:
+    """A checksum to care for: whether it was elided, and where the IPv6 header just outside and the UDP header begin."""
+    elided: bool
+    ip: int
+    udp: int
+
+
+def udp_checksum(datagram, places):
     """"computed over the whole datagram (RFC 8200, RFC 768; 0 becomes ffff)": the addresses, the UDP length and next
-    header 17, then the UDP header with 0 for its checksum and what follows."""
-    upper = datagram[IPV6_HEADER:]
-    pseudo = datagram[8:40] + len(upper).to_bytes(4, "big") + bytes([0, 0, 0, UDP])
+    header 17, then the UDP header with 0 for its checksum and what follows. 02: "A UDP header's length and checksum are
+    those of the bytes from it to the end, with the addresses of the IPv6 header just outside it." """
+    addresses = datagram[places.ip + 8:places.ip + IPV6_HEADER]
+    upper = datagram[places.udp:]
+    pseudo = addresses + len(upper).to_bytes(4, "big") + bytes([0, 0, 0, UDP])
     checksum = 0xffff - ones_sum(pseudo + upper[:6] + b"\0\0" + upper[8:])
     return checksum or 0xffff
 
 
-def with_checksum(datagram):
-    """"An elided checksum is computed over the whole datagram." Its place is bytes 46 and 47."""
-    return datagram[:46] + udp_checksum(datagram).to_bytes(2, "big") + datagram[48:]
+def with_checksum(datagram, places):
+    """"An elided checksum is computed over the whole datagram." Its place is the last two bytes of the UDP header."""
+    checksum = udp_checksum(datagram, places).to_bytes(2, "big")
+    return datagram[:places.udp + 6] + checksum + datagram[places.udp + UDP_HEADER:]
+
+
+def finished(datagram, places):
+    """The datagram once it is whole. "When a compressed UDP header carries its checksum, the table tests it once the
+    datagram is whole. A carried 0 never holds. Where an elided one would be 13, none is tested." A carried one holds if
+    it is the one that would be computed, which is never 0."""
+    if places is None:
+        return datagram
+    if places.elided:
+        return with_checksum(datagram, places)
+    carried = int.from_bytes(datagram[places.udp + 6:places.udp + UDP_HEADER], "big")
+    if carried != udp_checksum(datagram, places):
+        raise Refused(17)
+    return datagram
 
 
 @dataclass(frozen=True)
 class Expanded:
     data: bytes            # an elided checksum is 0 in it
-    elided: bool
+    sum: object            # a Sum, or None where no checksum is cared for
+
+
+def number_as_next(header):
+    """What the header before it says of a header."""
+    if isinstance(header, Iphc):
+        return IPV6
+    return UDP if isinstance(header, UdpNhc) else header.number
+
+
+def expanded_length(header):
+    if isinstance(header, Iphc):
+        return IPV6_HEADER
+    return UDP_HEADER if isinstance(header, UdpNhc) else 2 + len(header.body)
+
+
+def ipv6_header(iphc, next_header, payload_length):
+    """"version 6, traffic class dscp*4+ecn/64, flow label, payload length [..], next header [..], hop limit and both
+    addresses"."""
+    word = 6 << 28 | (iphc.dscp * 4 + iphc.ecn // 64) << 20 | iphc.flow
+    return (word.to_bytes(4, "big") + payload_length.to_bytes(2, "big") + bytes([next_header, iphc.hop_limit])
+            + iphc.src + iphc.dst)
+
+
+def extension_header(extension, next_header):
+    """RFC 8200 4.3: the next header, the length in units of eight octets without the first of them, the rest."""
+    return bytes([next_header, (2 + len(extension.body)) // 8 - 1]) + extension.body
+
+
+def udp_header(udp, length):
+    """"the compressed UDP header in full"; an elided checksum is 0 in it."""
+    return b"".join(value.to_bytes(2, "big") for value in (udp.src_port, udp.dst_port, length, udp.checksum or 0))
+
+
+def write_headers(headers, total):
+    """The headers of a datagram of `total` bytes in full. "payload length (total less 40; in a first part the total is
+    its size), next header (17 where UDP is compressed)"; so for an inner header, from its own place on. "The UDP length
+    equals the payload length", or with headers between them is that of "the bytes from it to the end"."""
+    data, places, ip = b"", None, 0
+    for header, behind in zip(headers, headers[1:] + [None]):
+        left = total - len(data)           # from this header to the end
+        if isinstance(header, UdpNhc):
+            if header.judged:
+                places = Sum(header.checksum is None, ip, len(data))
+            data += udp_header(header, left)
+            continue
+        next_header = header.next_header if behind is None else number_as_next(behind)
+        if isinstance(header, Iphc):
+            ip = len(data)
+            data += ipv6_header(header, next_header, left - IPV6_HEADER)
+        else:
+            data += extension_header(header, next_header)
+    return data, places
 
 
 def expand(payload, link_src, link_dst, contexts, size=None):
-    """"Expansion writes version 6, traffic class dscp*4+ecn/64, flow label, payload length (total less 40; in a first
-    part the total is its size), next header (17 where UDP is compressed), hop limit and both addresses, then the
-    compressed UDP header in full if there is one, then the rest. The UDP length equals the payload length." `size` is
-    the size of a first part; without it the payload is a whole datagram. "10 next to last for a first part whose
-    expanded bytes end beyond its size"."""
-    iphc = read_iphc(payload, link_src, link_dst, contexts)
-    rest = payload[iphc.length:]
-    udp = None
-    if iphc.next_header is None:
-        udp = read_udp_nhc(rest)
-        rest = rest[udp.length:]
-    own = IPV6_HEADER + (UDP_HEADER if udp else 0) + len(rest)
+    """"Expansion writes [the headers], then the rest." `size` is the size of a first part; without it the payload is a
+    whole datagram. "10 next to last for a first part whose expanded bytes end beyond its size"."""
+    headers, rest = read_headers(payload, link_src, link_dst, contexts)
+    own = sum(expanded_length(header) for header in headers) + len(rest)
     total = own if size is None else size
     if own > total:
         raise Refused(10)
-    word = 6 << 28 | (iphc.dscp * 4 + iphc.ecn // 64) << 20 | iphc.flow
-    data = word.to_bytes(4, "big") + (total - IPV6_HEADER).to_bytes(2, "big")
-    data += bytes([UDP if udp else iphc.next_header, iphc.hop_limit]) + iphc.src + iphc.dst
-    if udp:
-        for value in (udp.src_port, udp.dst_port, total - IPV6_HEADER, udp.checksum or 0):
-            data += value.to_bytes(2, "big")
-    return Expanded(data + rest, udp is not None and udp.checksum is None)
+    data, places = write_headers(headers, total)
+    return Expanded(data + rest, places)
 
 
 def expand_alone(payload, link_src, link_dst, contexts, out, size=None):
     """Expansion called by itself: "refuses 4 first for over 127 bytes, 10 next to last .. and 7 last". In a first part
-    an elided checksum stays 0. The answer is the number of bytes written at the output's start."""
+    an elided checksum stays 0. A carried one isn't tested here. The answer is the number of bytes written at the
+    output's start."""
     if len(payload) > LONGEST_FRAME:
         raise Refused(4)
     expanded = expand(payload, link_src, link_dst, contexts, size)
     if len(out) < len(expanded.data):
         raise Refused(7)
-    data = with_checksum(expanded.data) if expanded.elided and size is None else expanded.data
+    computed = expanded.sum is not None and expanded.sum.elided and size is None
+    data = with_checksum(expanded.data, expanded.sum) if computed else expanded.data
     out[:len(data)] = data
     return len(data)
 
@@ -446,7 +596,7 @@ class Slot:
     key: tuple             # "The key is source, destination, size, tag", the source with its PAN (02)
     opened: int
     parts: list = field(default_factory=list)       # (first byte, length, bytes) of every part taken
-    elided: bool = False
+    sum: object = None     # of the part at byte 0: its Sum, or None
 
 
 class Table:
@@ -496,9 +646,9 @@ class Table:
 
     def hand_out_whole(self, payload, mac, contexts, out):
         """"An IPHC frame is expanded and handed out"; "an unfragmented frame writes only its datagram at the output's
-        start"."""
+        start". 17 "stands after all refusals of expansion"."""
         expanded = expand(payload, mac.src, mac.dst, contexts)
-        data = with_checksum(expanded.data) if expanded.elided else expanded.data
+        data = finished(expanded.data, expanded.sum)
         out[:len(data)] = data
         return ("out", len(data))
 
@@ -507,10 +657,10 @@ class Table:
         expanded, from byte 0): size below 40, no bytes, offset 0 in a later part, end beyond size, or a length not a
         multiple of 8 that doesn't end at size; then 11 or 12." """
         fragment = read_fragment(payload)
-        data, elided = payload[fragment.length:], False
+        data, places = payload[fragment.length:], None
         if fragment.first:
             expanded = expand(data, mac.src, mac.dst, contexts, fragment.size)
-            data, elided = expanded.data, expanded.elided
+            data, places = expanded.data, expanded.sum
         begin, end = fragment.begin, fragment.begin + len(data)
         if fragment.size < 40 or len(data) == 0 or (begin == 0 and not fragment.first) or end > fragment.size:
             raise Refused(10)
@@ -523,7 +673,7 @@ class Table:
             s = self.open(key, time)
         elif self.judge_against_taken(s, begin, data):
             return ("kept",)
-        return self.take(s, begin, data, elided, mem, out)
+        return self.take(s, begin, data, places, mem, out)
 
     def find(self, key):
         """"The key is source, destination, size, tag." """
@@ -560,24 +710,23 @@ class Table:
         self.slots[s] = Slot(key, time)
         return s
 
-    def take(self, s, begin, data, elided, mem, out):
+    def take(self, s, begin, data, places, mem, out):
         """"Slot s begins at byte 2,048*s, s from 0. The part's bytes are written at their place in that slot's 2,048
         bytes, nothing else in it." "Whether the checksum was elided is remembered when the part at byte 0 is taken.
-        Full cover: output's start receives the datagram, the slot is freed, other output bytes stay." """
+        Full cover: output's start receives the datagram, the slot is freed, other output bytes stay." "17 (new), after
+        full cover; the slot is freed, its memory keeps the part just written, the output is untouched." """
         slot = self.slots[s]
         place = SLOT_BYTES * s + begin
         mem[place:place + len(data)] = data
         slot.parts.append((begin, len(data), data))
         if begin == 0:
-            slot.elided = elided
+            slot.sum = places
         size = slot.key[2]
         if sum(length for _, length, _ in slot.parts) < size:
             return ("kept",)
         datagram = b"".join(taken for _, _, taken in sorted(slot.parts))
-        if slot.elided:
-            datagram = with_checksum(datagram)
-        out[:size] = datagram
         self.slots[s] = None
+        out[:size] = finished(datagram, slot.sum)
         return ("out", size)
 
 
@@ -717,7 +866,7 @@ class TableLines:
 
     def __init__(self):
         self.table = None
-        self.mem = bytearray(LENT_BYTES)
+        self.mem, self.out = bytearray(LENT_BYTES), b""     # what is lent; `out` as the last call left it
 
     def answer(self, line):
         if line.startswith("#"):
@@ -743,7 +892,7 @@ class TableLines:
     def call(self, time, frame, contexts, mem_length, out_length):
         if mem_length > len(self.mem):
             self.mem.extend(bytes(mem_length - len(self.mem)))
-        out = bytearray(out_length)
+        out = self.out = bytearray(out_length)
         with memoryview(self.mem) as mem:
             with mem[:mem_length] as lent:
                 answer = self.table.call(time, frame, contexts, lent, out)
@@ -762,9 +911,91 @@ def number_of(function, *arguments):
         return refused.number
 
 
+def check_chains(alone):
+    """Item 5 of 02, worked by hand. The addresses are fe80::211:2233:4455:6677 and fe80::ff:fe00:abcd."""
+    src, dst = "fe800000000000000211223344556677", "fe80000000000000000000fffe00abcd"
+
+    def written(text, *rows, size=None):
+        answer, out = alone(text, 430, size)
+        assert out[:answer].hex() == "".join(rows), (text, answer, out[:answer].hex())
+
+    def refused(number, *texts):
+        for text in texts:
+            assert alone(text, 430)[0] == number, (text, number, alone(text, 430))
+
+    # Options of 0 to 7 octets, padded: Pad1 for one byte, PadN for more. Hop-by-hop, its next header 58 in line.
+    for count, pad in enumerate(("010400000000", "0103000000", "01020000", "010100", "0100", "00", "", "01050000000000")):
+        octets = "a1a2a3a4a5a6a7"[:2 * count]
+        length = 10 if count < 7 else 18
+        written(f"7e33e03a{count:02x}{octets}aabb", f"6000000000{length:02x}0040{src}{dst}",
+                f"3a{0 if count < 7 else 1:02x}{octets}{pad}", "aabb")
+    # Destination options (60), mobility (135) of 14 octets, routing (43) of 6, UDP with its checksum carried.
+    written("7e33" "e7020102" "e90e" + "0e" * 14 + "e306060606060606" "f3121234aa",
+            f"600000000029" "3c" f"40{src}{dst}", "87000102" "01020000", "2b01" + "0e" * 14, "1100060606060606",
+            "f0b1f0b200091234aa")
+    # In a first part of size 100 the lengths are those of the datagram; an elided checksum stays 0.
+    written("7e33e100f712aabb", f"60000000003c0040{src}{dst}", "1100010400000000", "f0b1f0b200340000aabb", size=100)
+    assert alone("7e33e100f712aabb", 430, 57)[0] == 10 and alone("7e33e100f712aabb", 430, 58)[0] == 58
+    # A tunnel: the elided inner addresses have the last 64 bits of the enclosing ones, also of ff02::1. The checksum
+    # is that of the addresses just outside, from the UDP header on: as for 7e33f712aabb, fcd9.
+    written("7e33" "ee" "7e33f712aabb", f"6000000000322940{src}{dst}", f"60000000000a1140{src}{dst}", "f0b1f0b2000afcd9aabb")
+    written("7e3b01" "ee" "7b333b", f"6000000000282940{src}ff020000000000000000000000000001",
+            f"6000000000003bff{src}fe800000000000000000000000000001")
+    # The enclosing header is the next one outside, and a routing header outside it does not count: fe80::1 to fe80::2,
+    # ports 61617 and 61618, 10 bytes: fe80+1+fe80+2+a+11+f0b1+f0b2+a+aabb = 48946, 894a; so 76b5.
+    written("7e33" "e306000000000000" "ee" "7e11" "0000000000000001" "0000000000000002" "ee" "7e33" "f712aabb",
+            f"6000000000622b40{src}{dst}", "2900000000000000",
+            "6000000000322940fe800000000000000000000000000001fe800000000000000000000000000002",
+            "60000000000a1140fe800000000000000000000000000001fe800000000000000000000000000002", "f0b1f0b2000a76b5aabb")
+    # Eight headers in all and UDP behind them; the ninth is 3 before its EID is judged, and before EID 7 with NH.
+    assert alone("7e33" + "e100" * 7 + "f712", 430)[0] == 40 + 56 + 8
+    refused(3, *("7e33" + "e100" * 7 + byte for byte in ("e0", "e4", "ea", "ed", "ee", "ef")))
+    refused(3, "7e33" + "ee7e33" * 7 + "e4")
+    refused(1, "7e33" + "e100" * 7)
+    refused(2, "7e33" + "e100" * 7 + "d0")
+    # Fragment, EID 5 and 6: 13 at the first byte. EID 7 with NH: 3; with nothing, a byte, or no IPHC behind it: 1, 2.
+    refused(13, *("7e33" + byte for byte in ("e4", "e5", "ea", "eb", "ec", "ed")))
+    refused(3, "7e33ef", "7e33ef7a333a")
+    refused(1, "7e33ee", "7e33ee7a", "7e33ee7a33")
+    refused(2, "7e33ee4133")
+    refused(5, "7e33ee7a733a")
+    # The bytes of an extension header: 1; a bad length of routing or mobility: 3, whether its bytes are there or not.
+    refused(1, "7e33e0", "7e33e03a", "7e33e03a01", "7e33e1", "7e33e306", "7e33e3060000000000", "7e33e90e")
+    refused(3, "7e33e300", "7e33e305", "7e33e30700000000000000", "7e33e93a", "7e33e83b07")
+    # Behind a routing header an elided checksum is 13 once the UDP header has been read; a carried one is not tested.
+    refused(13, "7e33e306000000000000f712", "7e33e306000000000000e100f712aabb")
+    refused(1, "7e33e306000000000000f7", "7e33e306000000000000f4000000")
+
+
+def check_carried():
+    """Item 7 of 02, worked by hand: the checksum of f712aabb from 0011223344556677 to abcd is fcd9."""
+    table = Table([(bytes.fromhex("0011223344556677"), 0xabcd)])
+
+    def call(payload):
+        frame = bytes.fromhex("41c805cdabcdab7766554433221100" + payload)
+        mem, out = bytearray(b"\xa5" * LENT_BYTES), bytearray(OUTPUT_BYTES)
+        answer = table.call(0, frame, b"", mem, out)
+        assert answer[0] != "no" or not any(out)
+        return answer + (mem[:50].count(0xa5),)
+
+    assert call("7e33f312fcd9aabb") == ("out", 50, 50)
+    for carried in ("fcd8", "0000", "ffff", "fdd9"):
+        assert call(f"7e33f312{carried}aabb") == ("no", 17, 50)
+    assert call("7e33ee7e33f312fcd9aabb") == ("out", 90, 50)
+    assert call("7e33ee7e33f312fcd8aabb") == ("no", 17, 50)
+    assert call("7e33e306000000000000f3120000aabb") == ("out", 58, 50)
+    # A UDP header in line isn't tested.
+    assert call("7a3311f0b1f0b2000a0000aabb") == ("out", 50, 50)
+    # Over two parts: once the datagram is whole, the slot is freed and its memory keeps the part.
+    assert call("c0320007" "7e33f312fcd8") == ("kept", 2)
+    assert call("e032000706" "aabb") == ("no", 17, 48) and table.slots[0] is None
+    assert call("e032000706" "aabb") == ("kept", 48)
+    assert call("c0320007" "7e33f312fcd9") == ("out", 50, 2) and table.slots[0] is None
+
+
 def check():
-    """K1 to K5, K10 to K12 as far as a receiver shows them, the printed run of `heard`, and the frame check that IEEE
-    802.15.4 works out (the acknowledgement 02 00 6a has e4 79)."""
+    """K1 to K5, K10 to K12 as far as a receiver shows them, items 5 and 7 of 02, the printed run of `heard`, and the
+    frame check that IEEE 802.15.4 works out (the acknowledgement 02 00 6a has e4 79)."""
     ext, short = bytes.fromhex("0011223344556677"), bytes.fromhex("abcd")
 
     def iphc(text, src=ext, dst=short):
@@ -803,6 +1034,9 @@ def check():
     assert alone("7a333a010203", 43)[0] == 43
     assert alone("7e33f712aabb", 60)[1][46:50].hex() == "fcd9aabb"
     assert alone("7e33f712aabb", 60, 50)[1][46:50].hex() == "0000aabb"
+
+    check_chains(alone)
+    check_carried()
 
     lines = TableLines()
     assert lines.answer("gateways s0001@abcd") == "ok"

@@ -5,8 +5,9 @@ it from model.py within their 10,000 captures or runs.
     mutants.py [--count 10000] [--seed 1] [NAME ..]
 
 Prints for each mutant the number of the first capture and of the first run that tells it apart; `-` where that face
-cannot show it (`heard` prints no bytes and no slots, has no contexts and only short gateways). The status is 1 if a
-mutant gets through.
+cannot show it (`heard` prints no bytes and no slots, has no contexts and only short gateways). Where only the lent bytes
+can show it, the memory and the output of each call of a run are compared as well. The status is 1 if a mutant gets
+through.
 """
 
 import argparse
@@ -18,7 +19,7 @@ import calls
 import captures
 import model
 
-BOTH, CALLS, CAPTURES = "both", "calls", "captures"
+BOTH, CALLS, CAPTURES, LENT = "both", "calls", "captures", "lent bytes"
 
 # Name, the faces that can show it, then pieces of model.py's text, each followed by what stands for it.
 
@@ -112,20 +113,20 @@ MUTANTS = [
      "        elif self.judge",
      "        if self.judge"),
     ("a slot freed by its cover keeps its marks", BOTH,
-     "        out[:size] = datagram\n"
-     "        self.slots[s] = None\n",
-     "        out[:size] = datagram\n"
+     "        self.slots[s] = None\n"
+     "        out[:size] =",
      "        self.__dict__.setdefault('left', {})[s] = slot.parts\n"
-     "        self.slots[s] = None\n",
+     "        self.slots[s] = None\n"
+     "        out[:size] =",
      "self.slots[s] = Slot(key, time)\n",
      "self.slots[s] = Slot(key, time, self.__dict__.setdefault('left', {}).pop(s, []))\n",
      "        elif self.judge",
      "        if self.judge"),
     ("elision of the slot's earlier datagrams stays", CALLS,
-     "            slot.elided = elided\n",
+     "            slot.sum = places\n",
      "            flags = self.__dict__.setdefault('flags', {})\n"
-     "            flags[s] = flags.get(s) or elided\n"
-     "            slot.elided = flags[s]\n"),
+     "            flags[s] = flags.get(s) or (places is not None and places.elided)\n"
+     "            slot.sum = places and replace(places, elided=flags[s])\n"),
     ("only a part of equal place clashes", BOTH,
      "if begin < first + length and first < begin + len(data):",
      "if begin == first:"),
@@ -290,8 +291,7 @@ MUTANTS = [
      "        if s is None:\n",
      "        s = self.find(key)\n"
      "        if s is None and begin == 0 and end == fragment.size:\n"
-     "            datagram = with_checksum(data) if elided else data\n"
-     "            out[:end] = datagram\n"
+     "            out[:end] = finished(data, places)\n"
      "            return (\"out\", end)\n"
      "        if s is None:\n"),
     ("late repeats are kept without a slot", BOTH,
@@ -302,10 +302,10 @@ MUTANTS = [
      "                return (\"kept\",)\n"
      "            s = self.open(key, time)\n",
      "        self.slots[s] = None\n"
-     "        return (\"out\", size)",
+     "        out[:size] =",
      "        self.done = slot.key\n"
      "        self.slots[s] = None\n"
-     "        return (\"out\", size)"),
+     "        out[:size] ="),
     ("covered when the last part has come", BOTH,
      "if sum(length for _, length, _ in slot.parts) < size:",
      "if max(first + length for first, length, _ in slot.parts) < size:"),
@@ -316,33 +316,33 @@ MUTANTS = [
      "if sum(length for _, length, _ in slot.parts) < size:",
      "if sum(length // 8 for _, length, _ in slot.parts) < size // 8:"),
     ("the slot stays after the cover", BOTH,
-     "        out[:size] = datagram\n"
-     "        self.slots[s] = None\n",
-     "        out[:size] = datagram\n"),
+     "        self.slots[s] = None\n"
+     "        out[:size] =",
+     "        out[:size] ="),
 
     # The checksum.
     ("elision remembered from any part", CALLS,
      "        if begin == 0:\n"
-     "            slot.elided = elided\n",
-     "        slot.elided = elided\n"),
+     "            slot.sum = places\n",
+     "        slot.sum = places\n"),
     ("elision of the last taking or repeat", CALLS,
      "        elif self.judge_against_taken(s, begin, data):\n",
      "        elif self.judge_against_taken(s, begin, data):\n"
      "            if begin == 0:\n"
-     "                self.slots[s].elided = elided\n"),
+     "                self.slots[s].sum = places\n"),
     ("elided never remembered", CALLS,
-     "            slot.elided = elided\n",
-     "            slot.elided = False\n"),
-    ("a carried checksum is computed too", CALLS, "udp is not None and udp.checksum is None)", "udp is not None)"),
+     "            slot.sum = places\n",
+     "            pass\n"),
+    ("a carried checksum is computed too", CALLS, "    if places.elided:\n", "    if True:\n"),
     ("a carried 0 is computed", CALLS,
-     "udp is not None and udp.checksum is None)",
-     "udp is not None and not udp.checksum)"),
+     "places = Sum(header.checksum is None, ",
+     "places = Sum(not header.checksum, "),
     ("elided and carried 0 are different parts", BOTH,
      "first == begin and length == len(data) and taken == data:",
-     "first == begin and length == len(data) and taken == data and (begin or self.slots[s].elided == "
-     "self.elided_now):",
+     "first == begin and length == len(data) and taken == data and (begin or self.slots[s].sum == "
+     "self.sum_now):",
      "        s = self.find(key)\n",
-     "        self.elided_now = elided\n"
+     "        self.sum_now = places\n"
      "        s = self.find(key)\n"),
     ("0 stays 0", CALLS, "    return checksum or 0xffff", "    return checksum"),
     ("the odd byte is padded in front", CALLS,
@@ -359,18 +359,108 @@ MUTANTS = [
     ("no next header in the pseudo-header", CALLS, "bytes([0, 0, 0, UDP])", "bytes(4)"),
     ("carry added once", CALLS, "    while total >> 16:", "    if total >> 16:"),
     ("an unfragmented checksum stays 0", CALLS,
-     "        data = with_checksum(expanded.data) if expanded.elided else expanded.data\n"
-     "        out[:len(data)]",
-     "        data = expanded.data\n"
-     "        out[:len(data)]"),
+     "        data = finished(expanded.data, expanded.sum)\n",
+     "        data = expanded.data\n"),
+
+    # A carried checksum is tested (02, item 7).
+    ("a carried checksum is not tested in a slot", BOTH,
+     "        out[:size] = finished(datagram, slot.sum)\n",
+     "        out[:size] = finished(datagram, slot.sum if slot.sum and slot.sum.elided else None)\n"),
+    ("a carried checksum is not tested in a whole frame", BOTH,
+     "        data = finished(expanded.data, expanded.sum)\n",
+     "        data = finished(expanded.data, expanded.sum if expanded.sum and expanded.sum.elided else None)\n"),
+    ("a carried 0 is let through", BOTH,
+     "    if carried !=",
+     "    if carried != 0 and carried !="),
+    ("a carried 0 is let through where the sum is 0", BOTH,
+     "    if carried != udp_checksum(datagram, places):\n",
+     "    if carried % 0xffff != udp_checksum(datagram, places) % 0xffff:\n"),
+    ("a carried ffff never holds", BOTH,
+     "    if carried !=",
+     "    if carried == 0xffff:\n"
+     "        raise Refused(17)\n"
+     "    if carried !="),
+    ("a wrong checksum is put right", BOTH,
+     "        raise Refused(17)\n",
+     "        return with_checksum(datagram, places)\n"),
+    ("17 is 10", BOTH, "        raise Refused(17)\n", "        raise Refused(10)\n"),
+    ("17 keeps the slot", BOTH,
+     "        self.slots[s] = None\n"
+     "        out[:size] = finished(datagram, slot.sum)\n",
+     "        out[:size] = finished(datagram, slot.sum)\n"
+     "        self.slots[s] = None\n"),
+    ("17 keeps the slot without its last part", BOTH,
+     "        self.slots[s] = None\n"
+     "        out[:size] = finished(datagram, slot.sum)\n",
+     "        last = slot.parts.pop()\n"
+     "        out[:size] = finished(datagram, slot.sum)\n"
+     "        slot.parts.append(last)\n"
+     "        self.slots[s] = None\n"),
+    ("17 frees every slot of the gateway", BOTH,
+     "        out[:size] = finished(datagram, slot.sum)\n",
+     "        if number_of(finished, datagram, slot.sum) == 17:\n"
+     "            self.slots = [None if x and x.key[0] == slot.key[0] else x for x in self.slots]\n"
+     "        out[:size] = finished(datagram, slot.sum)\n"),
+    ("17 before the part is written", LENT,
+     "        mem[place:place + len(data)] = data\n"
+     "        slot.parts.append((begin, len(data), data))\n",
+     "        slot.parts.append((begin, len(data), data))\n",
+     "        if sum(length for _, length, _ in slot.parts) < size:\n",
+     "        taken = b\"\".join(one for _, _, one in sorted(slot.parts))\n"
+     "        whole = len(taken) == size\n"
+     "        if not whole or number_of(finished, taken, slot.sum) != 17:\n"
+     "            mem[place:place + len(data)] = data\n"
+     "        if not whole:\n"),
+    ("17 with the output written", LENT,
+     "        out[:size] = finished(datagram, slot.sum)\n",
+     "        out[:size] = datagram\n"
+     "        out[:size] = finished(datagram, slot.sum)\n"),
+    ("17 of a whole frame with the output written", LENT,
+     "        data = finished(expanded.data, expanded.sum)\n",
+     "        out[:len(expanded.data)] = expanded.data\n"
+     "        data = finished(expanded.data, expanded.sum)\n"),
+    ("17 wipes the slot's memory", LENT,
+     "        out[:size] = finished(datagram, slot.sum)\n",
+     "        if number_of(finished, datagram, slot.sum) == 17:\n"
+     "            mem[SLOT_BYTES * s:SLOT_BYTES * s + size] = bytes(size)\n"
+     "        out[:size] = finished(datagram, slot.sum)\n"),
+    ("a carried checksum behind routing is tested", BOTH, "replace(udp, judged=not routed)", "replace(udp, judged=True)"),
+    ("only outside tunnels is one tested", BOTH, "    if carried !=", "    if places.ip == 0 and carried !="),
+    ("only without extension headers is one tested", BOTH,
+     "    if carried !=",
+     "    if places.ip + IPV6_HEADER == places.udp and carried !="),
+    ("a first part's checksum is tested at once", BOTH,
+     "            data, places = expanded.data, expanded.sum\n",
+     "            data, places = expanded.data, expanded.sum\n"
+     "            if places and not places.elided:\n"
+     "                finished(data, places)\n"),
+    ("17 before 11 and 12", BOTH,
+     "        key = (sender_of(mac), mac.dst, fragment.size, fragment.tag)\n",
+     "        if end == fragment.size and begin == 0:\n"
+     "            finished(data, places)\n"
+     "        key = (sender_of(mac), mac.dst, fragment.size, fragment.tag)\n"),
+    ("only the low byte is tested", BOTH,
+     "carried != udp_checksum(datagram, places):",
+     "carried & 0xff != udp_checksum(datagram, places) & 0xff:"),
+    ("only the high byte is tested", BOTH,
+     "carried != udp_checksum(datagram, places):",
+     "carried >> 8 != udp_checksum(datagram, places) >> 8:"),
+    ("tested without the addresses", BOTH,
+     "carried != udp_checksum(datagram, places):",
+     "carried != udp_checksum(bytes(places.udp) + datagram[places.udp:], places):"),
+    ("a UDP header in line is tested too", BOTH,
+     "            data += ipv6_header(header, next_header, left - IPV6_HEADER)\n",
+     "            data += ipv6_header(header, next_header, left - IPV6_HEADER)\n"
+     "            if behind is None and next_header == UDP and left >= 48:\n"
+     "                places = Sum(False, ip, len(data))\n"),
 
     # Expansion.
     ("length of the part for that of the datagram", CALLS,
      "total = own if size is None else size",
      "total = own if size is None else max(own, min(own, size))"),
     ("UDP length without its header", CALLS,
-     "(udp.src_port, udp.dst_port, total - IPV6_HEADER, ",
-     "(udp.src_port, udp.dst_port, total - 48, "),
+     "(udp.src_port, udp.dst_port, length, ",
+     "(udp.src_port, udp.dst_port, length - 8, "),
     ("ecn and dscp as they come", CALLS, "(iphc.dscp * 4 + iphc.ecn // 64)", "(iphc.ecn + iphc.dscp)"),
     ("flow label of 16 bits, TF=00", CALLS, "(b[1] & 0x0f) << 16 | b[2] << 8 | b[3]", "b[2] << 8 | b[3]"),
     ("flow label of 16 bits, TF=01", CALLS, "(b[0] & 0x0f) << 16 | b[1] << 8 | b[2]", "b[1] << 8 | b[2]"),
@@ -380,17 +470,246 @@ MUTANTS = [
     ("TF=01 takes four bytes", CALLS, "b = reader.take(3)", "b = reader.take(4)"),
     ("hop limits 1 and 64 changed round", CALLS, "(1, 64, 255)", "(64, 1, 255)"),
     ("universal/local bit not turned", CALLS, "address[0] ^ 2", "address[0]"),
-    ("extension header refused 2", BOTH,
-     "raise Refused(13)\n"
-     "    if head >> 3",
-     "raise Refused(2)\n"
-     "    if head >> 3"),
-    ("extension header read first (1)", BOTH,
+    # Extension headers (02, item 5).
+    ("extension headers refused 13 at their first byte", BOTH,
+     "        if len(headers) == MOST_HEADERS:\n",
      "        raise Refused(13)\n"
-     "    if head >> 3",
-     "        reader.take(1 if head & 1 else 2)\n"
-     "        raise Refused(13)\n"
-     "    if head >> 3"),
+     "        if len(headers) == MOST_HEADERS:\n"),
+    ("padding to four", BOTH, "padding(-(length + 2) % 8)", "padding(-(length + 2) % 4)"),
+    ("no padding", BOTH, "        body += padding(-(length + 2) % 8)\n", "        pass\n"),
+    ("padding without the first two bytes", BOTH, "padding(-(length + 2) % 8)", "padding(-length % 8)"),
+    ("eight bytes of padding where none is needed", BOTH, "padding(-(length + 2) % 8)", "padding(8 - (length + 2) % 8)"),
+    ("PadN's length one more", CALLS, "bytes([1, count - 2])", "bytes([1, count - 1])"),
+    ("PadN's length with its first two bytes", CALLS, "bytes([1, count - 2])", "bytes([1, count])"),
+    ("Pad1 for each byte", CALLS,
+     "    return bytes([1, count - 2]) + bytes(count - 2)\n",
+     "    return bytes(count)\n"),
+    ("PadN for one byte", CALLS, "        return bytes(count)\n    return bytes([1,", "        return bytes([1] * count)\n    return bytes([1,"),
+    ("PadN filled with ones", CALLS, "bytes([1, count - 2]) + bytes(count - 2)", "bytes([1, count - 2]) + bytes([1]) * (count - 2)"),
+    ("padding of all extension headers", BOTH,
+     "    if number not in OPTIONS and (length + 2) % 8 != 0:\n"
+     "        raise Refused(3)\n",
+     "",
+     "    if number in OPTIONS:\n",
+     "    if True:\n"),
+    ("mobility is padded", BOTH, "OPTIONS = (HOP_BY_HOP, DESTINATION_OPTIONS)", "OPTIONS = (HOP_BY_HOP, DESTINATION_OPTIONS, MOBILITY)"),
+    ("routing is padded", BOTH, "OPTIONS = (HOP_BY_HOP, DESTINATION_OPTIONS)", "OPTIONS = (HOP_BY_HOP, DESTINATION_OPTIONS, ROUTING)"),
+    ("destination options are not padded", BOTH, "OPTIONS = (HOP_BY_HOP, DESTINATION_OPTIONS)", "OPTIONS = (HOP_BY_HOP,)"),
+    ("a bad length only of routing", BOTH,
+     "    if number not in OPTIONS and (length",
+     "    if number == ROUTING and (length"),
+    ("a bad length without the first two bytes", BOTH, "number not in OPTIONS and (length + 2) % 8", "number not in OPTIONS and length % 8"),
+    ("a bad length once its bytes are taken", BOTH,
+     "    if number not in OPTIONS and (length + 2) % 8 != 0:\n"
+     "        raise Refused(3)\n"
+     "    body = reader.take(length)\n",
+     "    body = reader.take(length)\n"
+     "    if number not in OPTIONS and (length + 2) % 8 != 0:\n"
+     "        raise Refused(3)\n"),
+    ("a bad length is 4", BOTH, "(length + 2) % 8 != 0:\n        raise Refused(3)", "(length + 2) % 8 != 0:\n        raise Refused(4)"),
+    ("no options is refused", BOTH,
+     "    body = reader.take(length)\n",
+     "    if length == 0:\n"
+     "        raise Refused(3)\n"
+     "    body = reader.take(length)\n"),
+    ("a length in eight octets", BOTH,
+     "    body = reader.take(length)\n",
+     "    length = 8 * length + 6\n"
+     "    body = reader.take(length)\n"),
+    ("a length with the first two bytes", BOTH, "    body = reader.take(length)\n", "    body = reader.take(max(0, length - 2))\n"),
+    ("a length before the next header", BOTH,
+     "    next_header = None if compressed else reader.byte()\n"
+     "    length = reader.byte()\n",
+     "    length = reader.byte()\n"
+     "    next_header = None if compressed else reader.byte()\n"),
+    ("the next header is read when it is compressed", BOTH, "None if compressed else reader.byte()", "reader.byte() if compressed else None"),
+    ("fewer bytes than the length are enough", BOTH,
+     "    body = reader.take(length)\n",
+     "    length = min(length, len(reader.rest()))\n"
+     "    body = reader.take(length)\n"),
+    ("headers are counted from 0", BOTH, "if len(headers) == MOST_HEADERS:", "if len(headers) == MOST_HEADERS + 1:"),
+    ("seven headers", BOTH, "if len(headers) == MOST_HEADERS:", "if len(headers) == MOST_HEADERS - 1:"),
+    ("any number of headers", BOTH, "if len(headers) == MOST_HEADERS:", "if False:"),
+    ("UDP is counted", BOTH,
+     "        if head >> 4 != 0b1110:\n",
+     "        if len(headers) == MOST_HEADERS and head >> 3 == 0b11110:\n"
+     "            raise Refused(3)\n"
+     "        if head >> 4 != 0b1110:\n"),
+    ("the ninth is 3 whatever it is", BOTH,
+     "        if head >> 4 != 0b1110:\n",
+     "        if len(headers) == MOST_HEADERS and head >> 3 != 0b11110:\n"
+     "            raise Refused(3)\n"
+     "        if head >> 4 != 0b1110:\n"),
+    ("the ninth is 3 before it is there", BOTH,
+     "        head = Reader(reader.rest()).byte()\n",
+     "        if len(headers) == MOST_HEADERS and not reader.rest():\n"
+     "            raise Refused(3)\n"
+     "        head = Reader(reader.rest()).byte()\n"),
+    ("only IPv6 headers are counted", BOTH,
+     "if len(headers) == MOST_HEADERS:",
+     "if sum(isinstance(header, Iphc) for header in headers) == MOST_HEADERS:"),
+    ("IPv6 headers are not counted", BOTH,
+     "if len(headers) == MOST_HEADERS:",
+     "if 1 + sum(not isinstance(header, Iphc) for header in headers) == MOST_HEADERS:"),
+    ("counted anew in each IPv6 header", BOTH,
+     "if len(headers) == MOST_HEADERS:",
+     "if len(headers) - headers.index(around) == MOST_HEADERS:"),
+    ("an EID is judged before the ninth header", BOTH,
+     "        if len(headers) == MOST_HEADERS:\n",
+     "        if head >> 1 & 7 in (2, 5, 6):\n"
+     "            raise Refused(13)\n"
+     "        if len(headers) == MOST_HEADERS:\n"),
+    ("the ninth header is 3 once it is read", BOTH,
+     "        if len(headers) == MOST_HEADERS:\n",
+     "        if len(headers) == MOST_HEADERS and head >> 1 & 7 in EXTENSIONS:\n"
+     "            reader.take(1)\n"
+     "            read_extension(reader, EXTENSIONS[head >> 1 & 7], head & 1)\n"
+     "        if len(headers) == MOST_HEADERS:\n"),
+    ("the fragment EID is 3", BOTH,
+     "        else:\n"
+     "            raise Refused(13)\n",
+     "        else:\n"
+     "            raise Refused(3 if eid == 2 else 13)\n"),
+    ("EID 5 and 6 are 3", BOTH,
+     "        else:\n"
+     "            raise Refused(13)\n",
+     "        else:\n"
+     "            raise Refused(13 if eid == 2 else 3)\n"),
+    ("EID 2, 5 and 6 are read first", BOTH,
+     "        else:\n"
+     "            raise Refused(13)\n",
+     "        else:\n"
+     "            reader.take(1 if compressed else 2)\n"
+     "            raise Refused(13)\n"),
+    ("EID 5 as EID 4", BOTH, "3: DESTINATION_OPTIONS, 4: MOBILITY}", "3: DESTINATION_OPTIONS, 4: MOBILITY, 5: MOBILITY}"),
+    ("EID 7 with NH is let through", BOTH,
+     "            if compressed:\n"
+     "                raise Refused(3)\n",
+     ""),
+    ("EID 7 with NH is 13", BOTH,
+     "            if compressed:\n"
+     "                raise Refused(3)\n",
+     "            if compressed:\n"
+     "                raise Refused(13)\n"),
+    ("EID 7 with NH is 3 once its header is read", BOTH,
+     "            if compressed:\n"
+     "                raise Refused(3)\n"
+     "            around = read_iphc(reader.rest(), around.src, around.dst, contexts)\n",
+     "            around = read_iphc(reader.rest(), around.src, around.dst, contexts)\n"
+     "            if compressed:\n"
+     "                raise Refused(3)\n"),
+    ("a next header behind EID 7", BOTH,
+     "            around = read_iphc(reader.rest(), around.src, around.dst, contexts)\n",
+     "            reader.take(1)\n"
+     "            around = read_iphc(reader.rest(), around.src, around.dst, contexts)\n"),
+    ("EID 7 is any other extension header", BOTH, "        if eid == ANOTHER_IPHC:\n", "        if False:\n"),
+    ("mobility is 0", CALLS, "HOP_BY_HOP, ROUTING, DESTINATION_OPTIONS, MOBILITY = 0, 43, 60, 135",
+     "HOP_BY_HOP, ROUTING, DESTINATION_OPTIONS, MOBILITY = 0, 43, 60, 1000",
+     "    return UDP if isinstance(header, UdpNhc) else header.number\n",
+     "    return UDP if isinstance(header, UdpNhc) else header.number % 1000\n"),
+    ("routing is 44", CALLS, "DESTINATION_OPTIONS, MOBILITY = 0, 43, 60, 135", "DESTINATION_OPTIONS, MOBILITY = 0, 44, 60, 135"),
+    ("destination options are 59", CALLS, "DESTINATION_OPTIONS, MOBILITY = 0, 43, 60, 135", "DESTINATION_OPTIONS, MOBILITY = 0, 43, 59, 135"),
+    ("mobility is 139", CALLS, "DESTINATION_OPTIONS, MOBILITY = 0, 43, 60, 135", "DESTINATION_OPTIONS, MOBILITY = 0, 43, 60, 139"),
+    ("an inner IPv6 header is 4", CALLS, "IPV6 = 41 ", "IPV6 = 4 "),
+    ("the outer header names the last one", CALLS, "else number_as_next(behind)", "else number_as_next(headers[-1])"),
+    ("an extension header's length with its first unit", CALLS, "(2 + len(extension.body)) // 8 - 1", "(2 + len(extension.body)) // 8"),
+    ("an extension header's length in octets", CALLS, "(2 + len(extension.body)) // 8 - 1", "len(extension.body) % 256"),
+    ("an inner address from the MAC", CALLS,
+     "read_iphc(reader.rest(), around.src, around.dst, contexts)",
+     "read_iphc(reader.rest(), link_src, link_dst, contexts)"),
+    ("an inner address from the outermost header", CALLS,
+     "read_iphc(reader.rest(), around.src, around.dst, contexts)",
+     "read_iphc(reader.rest(), headers[0].src, headers[0].dst, contexts)"),
+    ("inner addresses changed round", CALLS,
+     "read_iphc(reader.rest(), around.src, around.dst, contexts)",
+     "read_iphc(reader.rest(), around.dst, around.src, contexts)"),
+    ("an inner address with its universal/local bit turned", CALLS,
+     "        return address[8:]\n",
+     "        return bytes([address[8] ^ 2]) + address[9:]\n"),
+    ("an inner address is the enclosing one", CALLS,
+     "        iid = interface_identifier(around)\n",
+     "        iid = interface_identifier(around)\n"
+     "        if len(around) == 16:\n"
+     "            return around\n"),
+    ("an inner address of a context has the enclosing prefix", CALLS,
+     "        iid = interface_identifier(around)\n",
+     "        iid = interface_identifier(around)\n"
+     "        if len(around) == 16 and by_context and number < len(contexts):\n"
+     "            return around\n"),
+    ("an inner address from the first 64 bits", CALLS, "        return address[8:]\n", "        return address[:8]\n"),
+    ("no inner address from an address of zeros", BOTH,
+     "    if not address:\n"
+     "        raise Refused(6)\n",
+     "    if not any(address):\n"
+     "        raise Refused(6)\n"),
+    ("no inner address from a group's", BOTH,
+     "    if not address:\n"
+     "        raise Refused(6)\n",
+     "    if not address or len(address) == 16 and address[0] == 0xff:\n"
+     "        raise Refused(6)\n"),
+    ("an inner payload length from the outer header on", CALLS,
+     "ipv6_header(header, next_header, left - IPV6_HEADER)",
+     "ipv6_header(header, next_header, total - IPV6_HEADER)"),
+    ("an inner payload length of the part's bytes", CALLS,
+     "    data, places = write_headers(headers, total)\n",
+     "    data, places = write_headers(headers, total)\n"
+     "    if len([header for header in headers if isinstance(header, Iphc)]) > 1:\n"
+     "        data = data[:40] + write_headers(headers, own)[0][40:]\n"),
+    ("payload length without extension headers", CALLS,
+     "ipv6_header(header, next_header, left - IPV6_HEADER)",
+     "ipv6_header(header, next_header, left - IPV6_HEADER - (2 + len(behind.body) if isinstance(behind, Extension) else 0))"),
+    ("UDP length from the IPv6 header on", CALLS, "udp_header(header, left)", "udp_header(header, total - ip - IPV6_HEADER)"),
+    ("UDP length from the outer header on", CALLS, "udp_header(header, left)", "udp_header(header, total - IPV6_HEADER)"),
+    ("the outer addresses in an inner checksum", CALLS, "            ip = len(data)\n", "            ip = 0\n"),
+    ("a checksum over the extension headers too", CALLS,
+     "    upper = datagram[places.udp:]\n"
+     "    pseudo = addresses + len(upper).to_bytes(4, \"big\")",
+     "    upper = datagram[places.udp:]\n"
+     "    between = datagram[places.ip + IPV6_HEADER:places.udp]\n"
+     "    pseudo = between + addresses + len(upper).to_bytes(4, \"big\")"),
+    ("the payload length in the pseudo-header", CALLS,
+     "    pseudo = addresses + len(upper).to_bytes(4, \"big\")",
+     "    pseudo = addresses + len(datagram[places.ip + IPV6_HEADER:]).to_bytes(4, \"big\")"),
+    ("the header's own next header in the pseudo-header", CALLS, "bytes([0, 0, 0, UDP])", "bytes([0, 0, 0, datagram[places.ip + 6]])"),
+    ("a checksum at byte 46 in any chain", CALLS,
+     "    return datagram[:places.udp + 6] + checksum + datagram[places.udp + UDP_HEADER:]\n",
+     "    return datagram[:46] + checksum + datagram[48:]\n"),
+    ("an elided checksum behind routing is computed", BOTH,
+     "            if udp.checksum is None and routed:\n"
+     "                raise Refused(13)\n"
+     "            headers.append(replace(udp, judged=not routed))\n",
+     "            headers.append(udp)\n"),
+    ("an elided checksum behind routing stays 0", BOTH,
+     "            if udp.checksum is None and routed:\n"
+     "                raise Refused(13)\n",
+     ""),
+    ("13 before the UDP header is read", BOTH,
+     "            udp = read_udp_nhc(reader.rest())\n",
+     "            if routed and head >> 3 == 0b11110 and head & 4:\n"
+     "                raise Refused(13)\n"
+     "            udp = read_udp_nhc(reader.rest())\n"),
+    ("a carried checksum behind routing is 13 too", BOTH, "            if udp.checksum is None and routed:\n", "            if routed:\n"),
+    ("a routing header outside a tunnel counts", BOTH,
+     "            headers.append(around)\n"
+     "            routed = False\n",
+     "            headers.append(around)\n"),
+    ("only the header just before counts as routing", BOTH,
+     "routed = routed or EXTENSIONS[eid] == ROUTING",
+     "routed = EXTENSIONS[eid] == ROUTING"),
+    ("any extension header counts as routing", BOTH, "routed = routed or EXTENSIONS[eid] == ROUTING", "routed = True"),
+    ("mobility counts as routing", BOTH,
+     "routed = routed or EXTENSIONS[eid] == ROUTING",
+     "routed = routed or EXTENSIONS[eid] in (ROUTING, MOBILITY)"),
+    ("UDP behind an extension header is 2", BOTH,
+     "            udp = read_udp_nhc(reader.rest())\n",
+     "            if len(headers) > 1:\n"
+     "                raise Refused(2)\n"
+     "            udp = read_udp_nhc(reader.rest())\n"),
+    ("10 before the chain is read", BOTH,
+     "    headers, rest = read_headers(payload, link_src, link_dst, contexts)\n",
+     "    if size is not None and size < IPV6_HEADER and len(payload) > 2:\n"
+     "        raise Refused(10)\n"
+     "    headers, rest = read_headers(payload, link_src, link_dst, contexts)\n"),
     ("destination context from the high half", CALLS,
      "src_context, dst_context = both >> 4, both & 15",
      "src_context, dst_context = both >> 4, both >> 4"),
@@ -745,7 +1064,7 @@ class Known:
             made, right = self.pair(number)
             try:
                 given = answer(made)
-            except (IndexError, ValueError, OverflowError) as error:
+            except (IndexError, KeyError, ValueError, OverflowError) as error:
                 given = str(error)
             if given != right:
                 return number
@@ -760,18 +1079,20 @@ def main():
     given = parser.parse_args()
     known_captures = Known(lambda n: captures.encode(captures.make(given.seed, n)), model.heard)
     known_calls = Known(lambda n: calls.make(given.seed, n), calls.expected)
+    known_lent = Known(lambda n: calls.make(given.seed, n), calls.watched)
     through = 0
     chosen = [mutant for mutant in MUTANTS if not given.names or mutant[0] in given.names]
     for name, faces, *edits in chosen:
         mutant = load(name, *edits)
-        in_captures = known_captures.first(mutant.heard, given.count) if faces != CALLS else None
-        in_calls = known_calls.first(lambda lines: calls.expected(lines, mutant), given.count) if faces != CAPTURES else None
-        missing = (in_captures is None and faces != CALLS) or (in_calls is None and faces != CAPTURES)
-        through += missing
-
-        def shown(number, face):
-            return "-" if faces == face else "NOT NOTICED" if number is None else str(number)
-        print(f"{name:<56} capture {shown(in_captures, CALLS):>11}   run {shown(in_calls, CAPTURES):>11}", flush=True)
+        found = []
+        for shows, known, answer in ((faces in (BOTH, CAPTURES), known_captures, mutant.heard),
+                                     (faces in (BOTH, CALLS), known_calls, lambda lines: calls.expected(lines, mutant)),
+                                     (faces == LENT, known_lent, lambda lines: calls.watched(lines, mutant))):
+            number = known.first(answer, given.count) if shows else "-"
+            found.append("NOT NOTICED" if number is None else number)
+        through += "NOT NOTICED" in found
+        run = found[2] if faces == LENT else found[1]
+        print(f"{name:<60} capture {found[0]:>11}   run {run:>11}", flush=True)
     print(f"{len(chosen)} mutants, {through} get through")
     sys.exit(1 if through else 0)
 

@@ -70,7 +70,7 @@ def packet(rng, world, src, dst, size, udp=None):
     if udp and size >= 48:
         data = rng.randbytes(size - 48) if chance(rng, 0.9) else bytes(size - 48)
         checksum = None
-        if chance(rng, 0.15):
+        if chance(rng, 0.05):
             checksum = rng.choice((0, 0xffff, rng.randrange(0x10000)))
         elif size >= 50 and chance(rng, 0.15):
             # Data that makes the sum come out 0, so that ffff must stand for it; or the plain sum end in ffff, so that its carry
@@ -82,6 +82,79 @@ def packet(rng, world, src, dst, size, udp=None):
             return f.udp_datagram(from_, to, 61616, 61617, word.to_bytes(2, "big") + data[2:], **others)
         return f.udp_datagram(from_, to, port(rng), port(rng), data, checksum, **others)
     return f.datagram(from_, to, rng.choice((58, 17, 59, 6, 0, 43)), rng.randbytes(size - 40), **others)
+
+
+# Which headers stand between the outer IPv6 header and what is carried: each kind as often, a tunnel more often.
+KINDS = (f.HOP_BY_HOP, f.ROUTING, f.DESTINATION, f.MOBILITY, f.TUNNELED, f.TUNNELED)
+
+
+def inner_end(rng, world, around, last):
+    """An address of an inner IPv6 header: mostly one that is elided against the enclosing one, in all forms."""
+    if last and chance(rng, 0.15):
+        return rng.choice((f.ip("ff02::1"), f.ip("ff05::1:3"), f.ip("ff3e::1:2:3"), b"\xff" + rng.randbytes(15)))
+    if not last and chance(rng, 0.05):
+        return bytes(16)
+    return unicast(rng, world, around)
+
+
+def content(rng, number, most):
+    """What stands behind the first two bytes of an extension header, without padding."""
+    if number in f.OPTIONS:
+        size = rng.choice((0, 1, 2, 3, 4, 5, 6, 7, 8, 13, 14, rng.randrange(max(1, most))))
+        return rng.randbytes(min(size, most)) if chance(rng, 0.8) else bytes(min(size, most))
+    return rng.randbytes(rng.choice([n for n in (6, 6, 6, 14, 22, 30) if n <= max(most, 6)]))
+
+
+def layers_of(rng, world, src, dst, count, most, udp=None):
+    """The layers of a datagram with `count` headers behind the outer one; `udp` behind them, or not."""
+    ends = unicast(rng, world, src), destination(rng, world, dst)
+    layers = [("ip", *ends, outer_fields(rng))]
+    for _ in range(count):
+        number = rng.choice(KINDS)
+        if number == f.TUNNELED:
+            ends = inner_end(rng, world, ends[0], False), inner_end(rng, world, ends[1], True)
+            layers.append(("ip", *ends, outer_fields(rng)))
+        else:
+            layers.append(("ext", number, content(rng, number, most)))
+    if chance(rng, 0.8) if udp is None else udp:
+        checksum = None if chance(rng, 0.95) else rng.choice((0, 0xffff, rng.randrange(0x10000)))
+        layers.append(("udp", port(rng), port(rng), checksum))
+    return layers
+
+
+def outer_fields(rng):
+    others = {"hop": rng.choice((1, 64, 64, 255, 63, 0))}
+    if chance(rng, 0.1):
+        others["traffic_class"] = rng.randrange(256)
+    if chance(rng, 0.1):
+        others["flow"] = rng.randrange(0x100000)
+    return others
+
+
+def chain_knobs(rng, world):
+    """How a sender writes a chain: mostly all of it compressed, each address in one way."""
+    k = knobs(rng, world)
+    k.update(chain=rng.choice((7, 7, 7, 7, 7, rng.randrange(8))), pads=rng.choice((0, 0, 0, 1, 2, rng.randrange(8))))
+    k["nhc"] = chance(rng, 0.95)
+    k["careless"] = chance(rng, 0.1)
+    if "choose" in k:
+        drawn = rng.randrange(1 << 30)
+        k["choose"] = lambda forms: forms[drawn % len(forms)]
+    return k
+
+
+def chain_packet(rng, world, src, dst, k, most, room_, udp=None):
+    """A datagram with a chain whose compressed headers fit into `room_` bytes; up to `most` bytes are carried."""
+    count = rng.choice((1, 1, 2, 2, 3, 4, 5, 6, 7, 7))
+    data = rng.randbytes(rng.choice((0, 1, 7, 8, 9, rng.randrange(most + 1), rng.randrange(most + 1))))
+    for width in (30, 16, 10, 6, 3, 0, 0, 0, 0):
+        layers = layers_of(rng, world, src, dst, count, width, udp)
+        made = f.chained(layers, rng.choice((58, 59, 17, 6, 50)), data)
+        if len(f.compress(made, src, dst, **k)[0]) <= room_:
+            return made
+        if width < 6:
+            count = max(1, count - 2)
+    return f.chained([layers[0], ("udp", 0xf0b1, 0xf0b2, None)], None, data)
 
 
 def knobs(rng, world, used_contexts=True):
@@ -157,14 +230,14 @@ class Stream:
     """A datagram on its way: its parts, in order, and how to make a frame of any part of it."""
 
     def __init__(self, rng, world, src=None, dst=None, size=None, tag=None, step=None, packet_=None, first_end=None,
-                 most=400, **more):
+                 most=400, knobs_=None, **more):
         self.rng = rng
         self.src = rng.choice(world.gateways) if src is None else src
         self.dst = rng.choice(world.destinations) if dst is None else dst
         self.tag = rng.choice((7, 7, 8, rng.randrange(0x10000))) if tag is None else tag
-        self.knobs = knobs(rng, world)
+        self.knobs = knobs(rng, world) if knobs_ is None else knobs_
         self.knobs.update(more)
-        if "choose" in self.knobs:
+        if "choose" in self.knobs and knobs_ is None:
             # One sender writes an address in one way: the choice is drawn once.
             drawn = rng.randrange(1 << 30)
             self.knobs["choose"] = lambda forms: forms[drawn % len(forms)]
@@ -459,8 +532,12 @@ def slots(rng, world, start):
                 pending.remove(frames)
         elif what < 18:
             now += rng.choice((0, 1, 20000, 30000, LIFETIME - 1, LIFETIME))
-        else:
+        elif what < 19:
             events.append((now, noise_frame(rng, world)))
+        else:
+            # A bad part of a key that is not open.
+            src = rng.choice(favourites)
+            events.append((now, header(rng, src, dst) + f.fragn(48, tag + 0x4000, 5) + rng.randbytes(rng.choice((0, 7, 9)))))
         now += rng.choice((0, 0, 1, 5))
     return events
 
@@ -505,6 +582,84 @@ def elided(rng, world, start):
     return timed(rng, order, start)
 
 
+def edge_sum(rng, packet_, at):
+    """The same with a word of its data such that the sum comes out as 0, so that ffff must stand for it (or 0 does), or
+    that the plain sum ends in ffff or a little below, so that a carry carries once more, or that the checksum is 1. Its
+    UDP header stands at `at`; the IPv6 header just outside is the outer one."""
+    if len(packet_) < at + 10:
+        return packet_
+    src, dst = packet_[8:24], packet_[24:40]
+    udp = packet_[at:at + 6] + bytes(4) + packet_[at + 10:]
+    word = f.udp_checksum(src, dst, udp)               # the sum comes out 0
+    kind = rng.randrange(4)
+    if kind == 1:
+        word = (word - 1) % 0xffff                     # and 1
+    elif kind > 1:
+        plain = f.plain_sum(src + dst + len(udp).to_bytes(2, "big") + bytes([0, 17]) + udp)
+        word = (0xffff - plain - rng.choice((0, 0, 1, 2, plain >> 16))) % 0x10000
+    udp = udp[:8] + word.to_bytes(2, "big") + udp[10:]
+    carried = 0 if kind == 0 and chance(rng, 0.4) else f.udp_checksum(src, dst, udp)
+    return packet_[:at] + udp[:6] + carried.to_bytes(2, "big") + udp[8:]
+
+
+def bent(rng, packet_, at):
+    """The datagram with something wrong, or exchanged so that its sum stays the same; its UDP header stands at `at`."""
+    kind = rng.randrange(10)
+    place = rng.choice((at, at + 2, at + 6, at + 7, len(packet_) - 1, rng.randrange(at, len(packet_))))
+    if kind == 0:
+        return packet_[:at + 6] + rng.choice((b"\0\0", b"\0\0", b"\xff\xff", rng.randbytes(2))) + packet_[at + 8:]
+    if kind == 1:
+        place = rng.randrange(8, 40)                   # an address
+    if kind == 2 and len(packet_) >= at + 12:
+        # Two words of the data exchanged: the sum holds.
+        return packet_[:at + 8] + packet_[at + 10:at + 12] + packet_[at + 8:at + 10] + packet_[at + 12:]
+    if kind == 3 and len(packet_) >= at + 10:
+        # Two bytes of a word exchanged.
+        return packet_[:at + 8] + packet_[at + 8:at + 10][::-1] + packet_[at + 10:]
+    if kind == 4:
+        carried = int.from_bytes(packet_[at + 6:at + 8], "big")
+        return packet_[:at + 6] + ((carried + rng.choice((1, -1, 0xff, 256))) % 0x10000).to_bytes(2, "big") + packet_[at + 8:]
+    if place in (at + 4, at + 5):                      # the length is not carried
+        place = at + 6
+    return packet_[:place] + bytes([packet_[place] ^ 1 << rng.randrange(8)]) + packet_[place + 1:]
+
+
+def sums(rng, world, start):
+    """Carried checksums that are right, wrong by a bit at any place, 0, ffff and with every carry; behind chains, behind
+    routing headers and in tunnels; in whole frames and in parts, sent again once they were refused."""
+    order = []
+    for _ in range(rng.choice((1, 2, 3, 4))):
+        src, dst = rng.choice(world.gateways), rng.choice(world.destinations)
+        k = chain_knobs(rng, world)
+        k.update(elide=chance(rng, 0.1), nhc=chance(rng, 0.95), chain=7)
+        if chance(rng, 0.5):
+            size = rng.choice((48, 49, 50, 51, 56, 57, 63, 64, 65, 72, 80, 81))
+            made = packet(rng, world, src, dst, size, udp=True)
+        else:
+            made = chain_packet(rng, world, src, dst, k, 40, 70, udp=True)
+        at = f.headers_of(made, 7, True)[-1][1]
+        if chance(rng, 0.3) and at == 40:
+            made = edge_sum(rng, made, at)
+        elif chance(rng, 0.6) and len(made) >= at + 8:
+            made = bent(rng, made, at)
+        compressed, covered = f.compress(made, src, dst, **k)
+        if chance(rng, 0.5) and len(compressed) + len(made) - covered <= room(src, dst):
+            order.append(header(rng, src, dst) + compressed + made[covered:])
+            continue
+        stream = Stream(rng, world, src, dst, packet_=made, knobs_=k, step=rng.choice((8, 16, 48)))
+        frames = stream.frames()
+        if chance(rng, 0.4):
+            rng.shuffle(frames)
+        if chance(rng, 0.3):
+            frames += rng.choice((frames, [rng.choice(frames)], frames[-1:]))
+        alone = stream.part(0, stream.size)
+        if chance(rng, 0.3) and len(alone.payload) <= stream.room:
+            # All of it in one first part, with the key open or not.
+            frames.insert(rng.randrange(len(frames) + 1), stream.frame(alone))
+        order += frames
+    return timed(rng, order[:36], start)
+
+
 def odd(rng, world, start):
     """Odd lengths: of datagrams, of parts, and later parts at byte 0."""
     stream = Stream(rng, world, size=rng.choice((49, 51, 53, 57, 61, 63, 65, 71, 73)), step=8, elide=chance(rng, 0.7))
@@ -540,6 +695,158 @@ def whole(rng, world, start):
         frame = front(rng, src, dst, payload) + payload
         if len(frame) <= 127:
             order.append(frame)
+    return timed(rng, order, start)
+
+
+def chain_stream(rng, world, most=None):
+    """A datagram with a chain, cut into parts."""
+    src, dst = rng.choice(world.gateways), rng.choice(world.destinations)
+    k = chain_knobs(rng, world)
+    made = chain_packet(rng, world, src, dst, k, rng.choice((60, 150, 400)) if most is None else most, room(src, dst) - 12)
+    return Stream(rng, world, src, dst, packet_=made, knobs_=k)
+
+
+def chain_frame(rng, world, src=None, **more):
+    """One frame with a whole datagram that has a chain, or with its first part; and where its payload begins."""
+    src, dst = rng.choice(world.gateways) if src is None else src, rng.choice(world.destinations)
+    k = chain_knobs(rng, world)
+    k.update(more)
+    head = header(rng, src, dst)
+    left = 127 - len(head)
+    made = chain_packet(rng, world, src, dst, k, 40, left)
+    compressed, covered = f.compress(made, src, dst, **k)
+    payload = (compressed + made[covered:])[:left]
+    if chance(rng, 0.25):
+        # One first part: the whole, or what a longer datagram begins with.
+        size = len(made) + rng.choice((0, 0, 0, 1, 7, 8, 9, -1, -2, -7, covered - len(made)))
+        end = rng.choice((len(made), covered + (len(made) - covered) // 8 * 8, covered))
+        payload = f.frag1(size, rng.choice((7, rng.randrange(0x10000)))) + compressed + made[covered:end]
+    return (head + payload)[:127], len(head)
+
+
+def chains(rng, world, start):
+    """Chains of each kind and depth, in whole frames and cut into parts, out of order and with repeats, beside datagrams
+    that have none."""
+    lists = []
+    for _ in range(rng.choice((1, 1, 2, 3))):
+        if chance(rng, 0.4):
+            lists.append([chain_frame(rng, world)[0] for _ in range(rng.choice((1, 2, 3, 5)))])
+            continue
+        stream = chain_stream(rng, world) if chance(rng, 0.85) else Stream(rng, world, most=200)
+        frames = stream.frames()
+        if chance(rng, 0.5):
+            rng.shuffle(frames)
+        for _ in range(rng.choice((0, 0, 1))):
+            frames.insert(rng.randrange(len(frames) + 1), rng.choice(frames))
+        if chance(rng, 0.2):
+            part = variant(rng, stream, rng.choice(stream.parts))
+            if len(part.payload) <= stream.room:
+                frames.insert(rng.randrange(len(frames) + 1), stream.frame(part))
+        lists.append(frames)
+    return timed(rng, interleave(rng, lists)[:36], start)
+
+
+def compressed_iphc(rng, world, elided=0.7):
+    """An IPHC header with a compressed next header, mostly of two bytes; none of its addresses is in line as a whole."""
+    first = 0x7c | rng.choice((1, 2, 3))
+    if chance(rng, elided):
+        return bytes([first, 0x33])
+    if world.contexts and chance(rng, 0.5):
+        number = rng.randrange(min(16, len(world.contexts)))
+        return bytes([first, 0x80 | rng.choice((0x73, 0x37, 0x77)), number << 4 | number])
+    sam, dam = rng.choice((1, 2, 3)), rng.choice((1, 2, 3))
+    return bytes([first, sam << 4 | dam]) + rng.randbytes((0, 8, 2, 0)[sam] + (0, 8, 2, 0)[dam])
+
+
+def short_links(rng, world, count):
+    """`count` compressed headers of few bytes, each with a compressed next header, and their length in full."""
+    links, full = b"", 0
+    mostly = rng.choice((KINDS, (f.HOP_BY_HOP,), (f.TUNNELED,), (f.DESTINATION, f.TUNNELED), (f.ROUTING, f.HOP_BY_HOP)))
+    for _ in range(count):
+        number = rng.choice(mostly)
+        if number == f.TUNNELED:
+            links += b"\xee" + compressed_iphc(rng, world, 0.9)
+            full += 40
+        elif number in f.OPTIONS:
+            size = rng.choice((0, 0, 0, 1, 5, 6, 7))
+            links += f.extension_nhc(f.EID[number], rng.randbytes(size))
+            full += (size + 9) // 8 * 8
+        else:
+            links += f.extension_nhc(f.EID[number], bytes(6))
+            full += 8
+    return links, full
+
+
+def last_link(rng, world):
+    """What may end a chain, mostly something that is refused; with its bytes, or some of them, behind it or not."""
+    kind = rng.randrange(14)
+    rest = rng.choice((b"", b"", bytes(1), bytes(8), rng.randbytes(rng.randrange(12)), bytes.fromhex("7a333a")))
+    number = rng.choice((f.HOP_BY_HOP, f.ROUTING, f.DESTINATION, f.MOBILITY))
+    if kind == 0:
+        return bytes([rng.choice((0xe4, 0xe5, 0xea, 0xeb, 0xec, 0xed))]) + rest
+    if kind == 1:
+        return b"\xef" + rng.choice((b"", b"\x7a", bytes.fromhex("7a333a"), bytes.fromhex("7e33f712"), rest))
+    if kind == 2:
+        return b"\xee" + rng.choice((b"", b"\x7a", b"\x7a\x33", b"\x41", b"\x41\x33", bytes.fromhex("7b343a"), bytes.fromhex("7b3c3a"),
+                                   bytes.fromhex("7b733a"), bytes.fromhex("7a373a"), bytes.fromhex("7e33"), bytes.fromhex("5a333a"),
+                                   bytes.fromhex("7af7f03a"), bytes.fromhex("7b743a"), rest))
+    if kind == 3:
+        # A routing or mobility header of a bad length, its bytes there or not.
+        eid, size = rng.choice((1, 4)), rng.choice((0, 1, 5, 7, 8, 13, 15, 255, rng.randrange(256)))
+        have = rng.choice((0, size, max(0, size - 1)))
+        return f.extension_nhc(eid, bytes(min(have, 30)), rng.choice((None, 58)), length=size) + rng.choice((b"", rest))
+    if kind == 4:
+        # A header cut short, at any of its bytes.
+        size = rng.choice((6, 14))
+        whole_ = f.extension_nhc(f.EID[number], rng.randbytes(size), rng.choice((None, 58)))
+        return whole_[:rng.randrange(len(whole_) + 1)]
+    if kind == 5:
+        # Options longer than what is there; or all there, up to the end.
+        have = rng.randrange(12)
+        return f.extension_nhc(rng.choice((0, 3)), rng.randbytes(have), rng.choice((None, 58, 17)),
+                               length=have + rng.choice((0, 0, 1, 100)))
+    if kind == 6:
+        return bytes([rng.choice((0xd0, 0xdf, 0xf8, 0xff, 0x00, 0x7a, 0x60, rng.randrange(256)))]) + rest
+    if kind < 9:
+        udp = f.udp_nhc(port(rng), port(rng), rng.choice((None, None, 0x1234)))
+        return udp[:rng.randrange(len(udp) + 1)]
+    if kind < 12:
+        return f.udp_nhc(port(rng), port(rng), rng.choice((None, None, None, 0, 0x1234))) + rest
+    return f.extension_nhc(f.EID[number], bytes(6), rng.choice((58, 17, 59, 0, 41))) + rest
+
+
+def chain_ends(rng, world, start):
+    """Chains of up to eight headers, mostly just as many or one less, with an end that may be refused: what counts as
+    the ninth, and which of two faults is named."""
+    order = []
+    for _ in range(rng.randrange(3, 12)):
+        src = rng.choice(world.gateways)
+        head = header(rng, src, rng.choice(world.destinations))
+        count = rng.choice((0, 1, 2, 3, 5, 6, 6, 7, 7, 7, 7, 8))
+        links, full = short_links(rng, world, count)
+        links = compressed_iphc(rng, world) + links + last_link(rng, world)
+        if chance(rng, 0.3):
+            size = rng.choice((39, 40, 40 + full, 48 + full, 56 + full, 48 + full + rng.randrange(1, 20), 2047))
+            links = f.frag1(size, rng.choice((7, rng.randrange(0x10000)))) + links
+        if len(head) + len(links) <= 127:
+            order.append(head + links)
+    return timed(rng, order, start)
+
+
+def cut_chains(rng, world, start):
+    """A frame with a chain cut short at one byte after the other, as far as its headers go."""
+    frame, begin = chain_frame(rng, world)
+    at = rng.randrange(begin, len(frame) + 1) if len(frame) - begin > 34 else begin
+    return timed(rng, [frame[:end] for end in range(at, min(len(frame) + 1, at + 34))], start)
+
+
+def bent_chains(rng, world, start):
+    """A frame with a chain with one of its bits turned, at several places; and the frame itself."""
+    frame, begin = chain_frame(rng, world)
+    order = [frame]
+    for _ in range(rng.randrange(4, 20)):
+        at = rng.randrange(begin, min(len(frame), begin + rng.choice((8, 20, 127))))
+        order.append(frame[:at] + bytes([frame[at] ^ 1 << rng.randrange(8)]) + frame[at + 1:])
     return timed(rng, order, start)
 
 
@@ -604,8 +911,8 @@ def mac_noise(rng, src, dst):
 
 def header_alone(rng, src, dst):
     """A header of any type and version with nothing behind it, whole, a byte short or a byte more, or two bytes of it."""
-    kind, version = rng.choice((0, 1, 1, 2, 3, 5, 5, 7)), rng.choice((1, 2, 2, 2))
-    src, dst = rng.choice(((src, dst), (src, dst), (b"", b""), (b"", dst)))
+    kind, version = rng.choice((0, 1, 1, 2, 3, 5, 5, 7)), rng.choice((0, 1, 2, 2, 2))
+    src, dst = rng.choice(((src, dst), (src, dst), (b"", b""), (b"", b""), (b"", dst)))
     one = bytearray(f.mac(src, dst, version=version, frame_type=kind, compress=chance(rng, 0.5)) + b"\x7a")
     one[1] |= rng.choice((0, 1, 1, 1, 2, 3))
     return bytes(one[:rng.choice((2, len(one) - 3, len(one) - 2, len(one) - 2, len(one) - 1, len(one) - 1, len(one)))])
@@ -630,8 +937,8 @@ def noise_frame(rng, world):
     """A frame that is most likely refused somewhere."""
     src = rng.choice(world.gateways) if world.gateways and chance(rng, 0.85) else rng.choice(world.strangers)
     dst = rng.choice(world.destinations)
-    kind = rng.randrange(13)
-    if kind == 12:
+    kind = rng.randrange(14)
+    if kind > 11:
         return header_alone(rng, src, dst)
     if kind > 9:
         return relay_noise(rng, world, src, dst)[:127]
@@ -660,7 +967,8 @@ def noise(rng, world, start):
 
 
 SCENES = ((good, 5), (long, 1), (same_tag, 3), (clash, 5), (sizes, 2), (last_unit, 2), (ageing, 3), (clock, 2), (slots, 4),
-          (late, 2), (elided, 3), (odd, 2), (whole, 2), (noise, 3))
+          (late, 2), (elided, 3), (odd, 2), (whole, 2), (noise, 6), (chains, 5), (chain_ends, 4), (cut_chains, 1),
+          (bent_chains, 1), (sums, 4))
 
 
 def starting_time(rng, top):

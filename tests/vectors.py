@@ -28,8 +28,8 @@ CONTROLLER = f.short(0xabcd)
 CONTEXTS = b"".join(peer.CONTEXTS)
 TSHARK_PART = "# ---- Datagrams that tshark put together and decompressed"
 HEAD = """\
-# Vectors for the table over calls, written by tests/vectors.py, which says how. First the rules of document 01, a remark before
-# each: their answers were written by hand. Then datagrams and parts that tshark (4.0) put together and decompressed: its bytes
+# Vectors for the table over calls, written by tests/vectors.py, which says how. First the rules of documents 01 and 02, a remark
+# before each: their answers were written by hand. Then datagrams and parts that tshark (4.0) put together and decompressed: its bytes
 # are the answers. Left out of tshark's part: the two bytes of an elided checksum, where tshark writes ffff (those are the sender's,
 # and tshark judged them right), refusals, clashes, ageing and slots.""".split("\n")
 
@@ -268,10 +268,10 @@ def bad_parts(s):
         s.call(0, from_to(ONE, CONTROLLER, payload), 1, "")
     s.remark("For a first part its expansion (1, 2, 3, 5, 13), before 10: these have size 39")
     for payload, answer in (("c0270007", 1), ("c02700077a", 1), ("c027000741aa", 2), ("c02700077b343a", 3),
-                            ("c02700077b733a", 5), ("c02700077e33e0", 13), ("c02700077e33ef00", 13), ("c02700077e3380", 2)):
+                            ("c02700077b733a", 5), ("c02700077e33e4", 13), ("c02700077e33ed00", 13), ("c02700077e3380", 2)):
         s.call(0, from_to(ONE, CONTROLLER, payload), answer, "")
-    s.remark("13: an extension header in a whole frame too, at its first byte; 2: no compressed header that is known")
-    for payload, answer in (("7e33e0", 13), ("7e33ee", 13), ("7e33", 1), ("7e33d0", 2), ("7e33f8", 2)):
+    s.remark("2: no compressed header that is known; 1: none at all")
+    for payload, answer in (("7e33", 1), ("7e33d0", 2), ("7e33f8", 2)):
         s.call(0, from_to(ONE, CONTROLLER, payload), answer, "")
     s.remark("10: size below 40")
     s.call(0, from_to(ONE, CONTROLLER, "c02700077a333a"), 10, "")
@@ -410,11 +410,11 @@ def checksums(s):
     zero = udp(ONE, 50)
     zero = udp_with(zero, int.from_bytes(zero[46:48], "big"))
     s.call(0, f.whole(zero, ONE, CONTROLLER, elide=True), zero, "")
-    s.remark("A carried checksum is not tested: right, wrong, 0")
+    s.remark("17: a carried checksum that does not hold, once the datagram is whole: right, wrong, 0")
     for checksum in (None, 0x1234, 0):
         carried = udp(ONE, 96, checksum=checksum)
         s.call(0, first(ONE, carried, 7, 56), "kept", "0")
-        s.call(0, later(ONE, carried, 7, 56, 96), carried, "")
+        s.call(0, later(ONE, carried, 7, 56, 96), carried if checksum is None else 17, "")
     s.remark("Whether it was elided is remembered when the part at byte 0 is taken: a carried 0 is then a repeat, and it stays elided")
     right, none = udp(ONE, 96), udp(ONE, 96, checksum=0)
     s.call(0, first(ONE, right, 7, 56, elide=True), "kept", "0")
@@ -422,7 +422,7 @@ def checksums(s):
     s.call(0, later(ONE, right, 7, 56, 96), right, "")
     s.call(0, first(ONE, none, 7, 56), "kept", "0")
     s.call(0, first(ONE, right, 7, 56, elide=True), "kept", "0")
-    s.call(0, later(ONE, right, 7, 56, 96), none, "")
+    s.call(0, later(ONE, right, 7, 56, 96), 17, "")
     s.remark("An elided one against a carried one: in a slot its place holds 0, so this is a clash")
     s.call(0, first(ONE, right, 7, 56, elide=True), "kept", "0")
     s.call(0, first(ONE, right, 7, 56), 11, "")
@@ -436,12 +436,212 @@ def udp_with(datagram, word):
     return made
 
 
+# ------------------------------------------------------------------------------------------------ 02, item 5: chains
+
+# Short 0001 and short abcd. Words of the two add up to 1fd80 and 2a94c; UDP from port f0b1 to f0b2 brings its length twice,
+# f0b1, f0b2 and 11: with no data 68850 in all, so 77a9; with aabb 7330f, so cce9.
+S, D = "fe80000000000000000000fffe000001", "fe80000000000000000000fffe00abcd"
+
+
+def written(s, payload, *rows, contexts=b"", source=ONE):
+    """A whole frame, and the datagram that is handed out."""
+    s.call(0, from_to(source, CONTROLLER, payload), hexed("".join(rows)), "", contexts=contexts)
+
+
+def refusals(s, answer, *payloads, contexts=b""):
+    for payload in payloads:
+        s.call(0, from_to(ONE, CONTROLLER, payload), answer, "", contexts=contexts)
+
+
+def chain_kinds(s):
+    s.remark("02, item 5: hop-by-hop options of 0 to 8 octets, their next header 58 in line, padded to eight: Pad1 for one byte,"
+             " PadN for more")
+    for count, pad in enumerate(("010400000000", "0103000000", "01020000", "010100", "0100", "00", "", "01050000000000",
+                                 "010400000000")):
+        octets, units = "b1b2b3b4b5b6b7b8"[:2 * count], count // 7
+        written(s, f"7e33e03a{count:02x}{octets}aabb", f"6000000000{10 + 8 * units:02x}0040", S, D, f"3a{units:02x}", octets,
+                pad, "aabb")
+    s.remark("Destination options (60); routing (43) and mobility (135) as they are; then 58 in line")
+    written(s, "7e33e63a0301020399", "6000000000093c40", S, D, "3a00010203010100", "99")
+    written(s, "7e33e23a0604000000000099", "6000000000092b40", S, D, "3a00040000000000", "99")
+    written(s, "7e33e83a0e0102030405060708090a0b0c0d0e", "6000000000108740", S, D, "3a01", "0102030405060708090a0b0c0d0e")
+    s.remark("One behind the other, and UDP: its length is that of the bytes from it to the end")
+    written(s, "7e33" "e100" "e7020102" "e90600000000000a" "f712" "aabb", "6000000000220040", S, D, "3c00010400000000",
+            "8700010201020000", "1100" "00000000000a", "f0b1f0b2000a", "cce9", "aabb")
+    s.remark("The next header in line may be any: 17 with a plain UDP header, whose checksum is copied; 0; 41; 44")
+    written(s, "7e33e01100" "f0b1f0b200081234", "6000000000100040", S, D, "1100010400000000", "f0b1f0b200081234")
+    for number in ("00", "29", "2c"):
+        written(s, f"7e33e0{number}00" "0102", "60000000000a0040", S, D, f"{number}00010400000000", "0102")
+
+
+def chain_refusals(s):
+    s.remark("13: fragment, EID 5 and 6, at their first byte")
+    refusals(s, 13, *("7e33" + head for head in ("e4", "e5", "ea", "eb", "ec", "ed", "e43a00", "ec3a00")))
+    s.remark("1: an extension header cut short, at each of its bytes")
+    refusals(s, 1, "7e33", *("7e33e03a03010203"[:end] for end in range(6, 16, 2)),
+             *("7e33e306010203040506"[:end] for end in range(6, 20, 2)), "7e33e3" "06010203040506", "7e33e9fe")
+    s.remark("3: routing or mobility of a length that with its first two bytes is no multiple of eight, before its bytes")
+    refusals(s, 3, "7e33e300", "7e33e305", "7e33e23a07", "7e33e30701020304050607", "7e33e908", "7e33e83aff", "7e33e9050102030405")
+    s.remark("EID 7: 3 with NH set, before what follows; 1 and 2 where no IPHC header follows; its own refusals")
+    refusals(s, 3, "7e33ef", "7e33ef41", "7e33ef7a333a", "7e33ee7b343a", "7e33ee7b3c3a01")
+    refusals(s, 1, "7e33ee", "7e33ee7a", "7e33ee41", "7e33ee7a33", "7e33ee7e33", "7e33ee7a013a" + "00" * 15)
+    refusals(s, 2, "7e33ee4133", "7e33ee7e33d0")
+    refusals(s, 5, "7e33ee7a733a", "7e33ee7ab7013a")
+    s.remark("Eight headers in all, the outer one counted, UDP not; the ninth is 3 before its EID is judged")
+    hops = "e100" * 7
+    written(s, "7e33" + "e100" * 6 + "e03a00", "6000000000380040", S, D, "0000010400000000" * 6, "3a00010400000000")
+    written(s, "7e33" + hops + "f712", "6000000000400040", S, D, "0000010400000000" * 6, "1100010400000000", "f0b1f0b20008", "77a9")
+    refusals(s, 3, *("7e33" + hops + more for more in ("e0", "e03a00", "e300", "e4", "ea", "ed", "ee", "ee7a333a", "ef")))
+    refusals(s, 3, "7e33" + "ee7e33" * 7 + "ee7a333a", "7e33" + "e100ee7e33" * 3 + "e100e4")
+    refusals(s, 1, "7e33" + hops, "7e33" + hops + "f7")
+    refusals(s, 2, "7e33" + hops + "d0", "7e33" + hops + "7a33")
+    s.remark("13: an elided checksum behind a routing header, once the UDP header is read (1 first); a carried one is copied")
+    routed = "7e33e306000000000000"
+    refusals(s, 13, routed + "f712", routed + "e100f712", routed + "f50001f2aabb")
+    refusals(s, 1, routed + "f7", routed + "f4000100")
+    written(s, routed + "f3121234aa", "6000000000112b40", S, D, "1100000000000000", "f0b1f0b200091234aa")
+    s.remark("A mobility header is none; nor is a routing header outside an inner IPv6 header")
+    written(s, "7e33e906000000000000f712aabb", "6000000000128740", S, D, "1100000000000000", "f0b1f0b2000acce9aabb")
+    written(s, routed + "ee7e33f712aabb", "60000000003a2b40", S, D, "2900000000000000", "60000000000a1140", S, D,
+            "f0b1f0b2000acce9aabb")
+
+
+def tunnels(s):
+    group = "ff020000000000000000000000000001"
+    context = peer.CONTEXTS[1].hex()
+    s.remark("EID 7: another IPHC header. Elided addresses have the last 64 bits of the enclosing IPv6 header's, a group's too")
+    written(s, "7e33ee7a333a0102", "60000000002a2940", S, D, "6000000000023a40", S, D, "0102")
+    written(s, "7e3b01ee7b333b", "6000000000282940", S, group, "6000000000003bff", S, "fe800000000000000000000000000001")
+    written(s, "7e03" "20010db8000000001111222233334444" "ee7a333a", "6000000000282940", "20010db8000000001111222233334444", D,
+            "6000000000003a40", "fe800000000000001111222233334444", D)
+    s.remark("With a context, with 16, 64 and 128 bits in line, all zeros, and a group")
+    written(s, "7e33ee7a73" "3a", "6000000000282940", S, D, "6000000000003a40", peer.CONTEXTS[0].hex(), S[16:], D, contexts=CONTEXTS)
+    written(s, "7e33ee7af7" "12" "3a", "6000000000282940", S, D, "6000000000003a40", context, S[16:], peer.CONTEXTS[2].hex(), D[16:],
+            contexts=CONTEXTS)
+    written(s, "7e33ee7a213a" "7777" "0102030405060708", "6000000000282940", S, D, "6000000000003a40",
+            "fe80000000000000000000fffe007777", "fe800000000000000102030405060708")
+    written(s, "7e33ee7a403a" "20010db8000000000000000000000001", "6000000000282940", S, D, "6000000000003a40", "00" * 16,
+            "20010db8000000000000000000000001")
+    written(s, "7e33ee7a393a" "051234560002", "6000000000282940", S, D, "6000000000003a40", S, "ff050000000000000000001234560002")
+    s.remark("The enclosing header is the one just outside: the second has 64 bits in line, the third none")
+    inner = "fe80000000000000a1a2a3a4a5a6a7a8"
+    written(s, "7e33" "ee7e13" "a1a2a3a4a5a6a7a8" "ee7a333a", "6000000000502940", S, D, "6000000000282940", inner, D, "6000000000003a40",
+            inner, D)
+    s.remark("A UDP checksum has the addresses of the IPv6 header just outside it")
+    # 2001, db8 and 1 (or f001) with 2a94c, 8, 11, f0b1, f0b2 and 8: 4b88a, so 4771; 5a88a, so 5770.
+    for source, checksum in (("20010db8000000000000000000000001", "4771"), ("20010db800000000000000000000f001", "5770")):
+        written(s, f"7e33ee7e03{source}f712", "6000000000302940", S, D, "6000000000081140", source, D, "f0b1f0b20008", checksum)
+    s.remark("Traffic class, flow label and hop limit of an inner header are its own")
+    written(s, "7e33ee" "6033" "6e0abcde" "3a07", "6000000000282940", S, D, "6b9abcde00003a07", S, D)
+
+
+def chains_in_parts(s):
+    """Payload and UDP lengths are those of the whole datagram; a first part counts as expanded."""
+    one, here = f.link_local(ONE), f.link_local(CONTROLLER)
+    options, routing = ("ext", f.HOP_BY_HOP, hexed("0102")), ("ext", f.ROUTING, bytes(6))
+    inner = ("ip", one, here, {"hop": 255})
+    data = bytes(range(100))
+    for name, layers, elide in (("hop-by-hop and UDP, the checksum carried", [options], False),
+                                ("hop-by-hop and UDP, the checksum elided", [options], True),
+                                ("routing, a tunnel, hop-by-hop and UDP, elided", [routing, inner, options], True),
+                                ("seven tunnels and UDP, elided", [inner] * 7, True)):
+        datagram = f.chained([("ip", one, here, {})] + layers + [("udp", 0xf0b1, 0xf0b2, None)], None, data)
+        headers = len(datagram) - len(data)
+        for order in ((0, 1, 2), (2, 0, 1), (1, 2, 0)):
+            s.remark(f"In parts: {name}")
+            parts = [first(ONE, datagram, 7, headers + 16, chain=7, elide=elide), later(ONE, datagram, 7, headers + 16, headers + 64),
+                     later(ONE, datagram, 7, headers + 64, len(datagram))]
+            s.call(0, parts[order[0]], "kept", "0")
+            s.call(1, parts[order[1]], "kept", "0")
+            s.call(1, parts[order[1]], "kept", "0")
+            s.call(2, parts[order[2]], datagram, "")
+    s.remark("10 for a first part counts the padding: 48 bytes of headers, and one of data that ends at size or beyond it")
+    s.call(0, from_to(ONE, CONTROLLER, "c0310007" "7e33e03a00" "aa"), hexed("6000000000090040" + S + D + "3a00010400000000" "aa"), "")
+    s.call(0, from_to(ONE, CONTROLLER, "c0300007" "7e33e03a00" "aa"), 10, "")
+    s.call(0, from_to(ONE, CONTROLLER, "c0320007" "7e33e03a00" "aa"), 10, "")
+    s.call(0, from_to(ONE, CONTROLLER, "c0320007" "7e33e03a00"), "kept", "0")
+    s.remark("Its expansion's refusals come before 10: size 39")
+    for payload, answer in (("7e33e0", 1), ("7e33e305", 3), ("7e33ef", 3), ("7e33ee41", 1), ("7e33ee4100", 2), ("7e33e4", 13),
+                            ("7e33" + "e100" * 7 + "e4", 3), ("7e33e306000000000000f712", 13), ("7e33ee7a733a", 5)):
+        s.call(0, from_to(ONE, CONTROLLER, "c0270007" + payload), answer, "")
+
+
+# --------------------------------------------------------------------------------------- 02, item 7: carried checksums
+
+def carried(s):
+    s.remark("17: a carried checksum that does not hold, in a whole frame: right; wrong by a bit at every place; 0; ffff")
+    right = hexed("60000000000a1140" + S + D + "f0b1f0b2000acce9aabb")
+    s.call(0, from_to(ONE, CONTROLLER, "7e33f312cce9aabb"), right, "")
+    for bit in range(16):
+        s.call(0, from_to(ONE, CONTROLLER, f"7e33f312{0xcce9 ^ 1 << bit:04x}aabb"), 17, "")
+    for payload in ("7e33f3120000aabb", "7e33f312ffffaabb", "7e33f312e9ccaabb", "7e33f312cce9aaba", "7e33f312cce92abb", "7e33f313cce9aabb",
+                    "7e33f322cce9aabb", "7e33f312cce9aa", "7e33f312cce9aabb00bb", "7e32abcef312cce9aabb"):
+        s.call(0, from_to(ONE, CONTROLLER, payload), 17, "")
+    s.call(0, from_to(ONE, CONTROLLER, "7e32abcdf312cce9aabb"), right, "")
+    s.call(0, from_to(TWO, CONTROLLER, "7e33f312cce9aabb"), 17, "")
+    s.remark("A carried 0 never holds: data is chosen so that the sum is ffff, and ffff holds")
+    zero = udp(ONE, 50)
+    zero = udp_with(zero, int.from_bytes(zero[46:48], "big"))
+    s.call(0, f.whole(zero, ONE, CONTROLLER), zero, "")
+    s.call(0, f.whole(zero[:46] + b"\0\0" + zero[48:], ONE, CONTROLLER), 17, "")
+    s.remark("Odd lengths; a byte of 0 at the end changes the length alone")
+    for size in (48, 49, 51, 63, 80):
+        datagram = udp(ONE, size, 7)
+        s.call(0, f.whole(datagram, ONE, CONTROLLER), datagram, "")
+        s.call(0, f.whole(datagram, ONE, CONTROLLER) + b"\0", 17, "")
+    s.remark("A UDP header in line is not tested; nor is a carried checksum behind a routing header")
+    s.call(0, from_to(ONE, CONTROLLER, "7a3311f0b1f0b2000a0000aabb"), right[:46] + bytes(2) + right[48:], "")
+    written(s, "7e33e306000000000000f3120000aabb", "6000000000122b40", S, D, "1100000000000000", "f0b1f0b2000a0000aabb")
+    s.remark("Behind other headers and in a tunnel it is; a routing header outside an inner IPv6 header does not count")
+    written(s, "7e33e100f312cce9aabb", "6000000000120040", S, D, "1100010400000000", "f0b1f0b2000acce9aabb")
+    written(s, "7e33ee7e33f312cce9aabb", "6000000000322940", S, D, "60000000000a1140", S, D, "f0b1f0b2000acce9aabb")
+    written(s, "7e33e306000000000000ee7e33f312cce9aabb", "60000000003a2b40", S, D, "2900000000000000", "60000000000a1140", S, D,
+            "f0b1f0b2000acce9aabb")
+    refusals(s, 17, "7e33e100f312cce8aabb", "7e33ee7e33f312cce8aabb", "7e33e306000000000000ee7e33f312cce8aabb",
+             "7e33e906000000000000f312cce8aabb")
+    s.remark("17 after all refusals of expansion")
+    refusals(s, 1, "7e33f312", "7e33f31200")
+    refusals(s, 3, "7e33" + "e100" * 7 + "e0")
+    s.remark("In parts: after full cover, and the slot is freed; the other slot stays. Then the datagram once more, right")
+    wrong, whole = udp(ONE, 96, checksum=0x1234), udp(ONE, 96)
+    other = udp(TWO, 96)
+    s.call(0, first(TWO, other, 7, 56), "kept", "0")
+    s.call(0, first(ONE, wrong, 7, 56), "kept", "01")
+    s.call(1, first(ONE, wrong, 7, 56), "kept", "01")
+    s.call(1, later(ONE, wrong, 7, 56, 96), 17, "0")
+    s.call(2, later(ONE, wrong, 7, 56, 96), "kept", "01")
+    s.call(3, first(ONE, whole, 7, 56), whole, "0")
+    s.call(4, later(TWO, other, 7, 56, 96), other, "")
+    s.remark("A bit turned in a later part, the last to come or not")
+    bent = turned(later(ONE, whole, 7, 56, 96))
+    s.call(0, first(ONE, whole, 7, 56), "kept", "0")
+    s.call(0, bent, 17, "")
+    s.call(0, bent, "kept", "0")
+    s.call(0, first(ONE, whole, 7, 56), 17, "")
+    s.remark("All of it in one first part: 17 and no slot; 11 comes before it, and 12")
+    alone = first(ONE, udp(ONE, 64, checksum=1), 7, 64)
+    s.call(0, alone, 17, "")
+    s.call(0, later(ONE, udp(ONE, 64), 7, 56, 64), "kept", "0")
+    s.call(0, alone, 11, "")
+    for tag in (1, 2, 3):
+        s.call(0, later(ONE, whole, tag, 56, 96), "kept", "012"[:tag])
+    s.call(0, alone, 12, "012")
+    s.remark("Whether it is carried is remembered when the part at byte 0 is taken: 0 carried, then elided, is a repeat, and is tested")
+    s.call(0, first(ONE, udp(ONE, 96, checksum=0), 7, 56), "kept", "0")
+    s.call(0, first(ONE, whole, 7, 56, elide=True), "kept", "0")
+    s.call(0, later(ONE, whole, 7, 56, 96), 17, "")
+    s.call(0, first(ONE, whole, 7, 56, elide=True), "kept", "0")
+    s.call(0, first(ONE, udp(ONE, 96, checksum=0), 7, 56), "kept", "0")
+    s.call(0, later(ONE, whole, 7, 56, 96), whole, "")
+
+
 def hand_made():
     s = Script()
     for line in HEAD:
         s.plain(line, line)
-    for part in (gateway_lists, whole_frames, pans, mac_refusals, rooms_and_times, ageing, bad_parts, clashes, slots, keys,
-                 checksums):
+    parts = [gateway_lists, whole_frames, pans, mac_refusals, rooms_and_times, ageing, bad_parts, clashes, slots, keys, checksums,
+             chain_kinds, chain_refusals, tunnels, chains_in_parts, carried]
+    for part in parts:
         part(s)
     return s
 
@@ -475,7 +675,7 @@ def from_tshark(start):
         lines.append(f"call {start + i} {frame.hex()} {CONTEXTS.hex()} 16384 2047")
         whole = peer.datagrams_shown(shown[i], one)
         if whole:
-            data = whole[0][:46] + one.datagram[46:48] + whole[0][48:] if one.elided else whole[0]
+            data = one.apart_from_elided(whole[0], one.datagram)
             answers.append(f"out {len(data)} {data.hex()}")
         else:
             answers.append("kept")

@@ -17,7 +17,8 @@ static void expect(int holds, const char *what) {
 struct node { uint64_t kind, number; };
 struct source { struct node node; uint64_t pan; };
 struct key { struct source src; struct node dst; uint16_t size, tag; };
-struct slot { struct key key; uint64_t since, covered[4], starts[4], live; _Bool elided; };
+struct udp_sum { uint16_t kind, ip, udp; };
+struct slot { struct key key; uint64_t since, covered[4], starts[4], live; struct udp_sum sum; };
 struct inside { struct slot slots[8]; uint64_t last; struct source gateways[4]; };
 _Static_assert(sizeof(struct inside) == sizeof(lift_table), "size");
 _Static_assert(_Alignof(struct inside) == _Alignof(lift_table), "alignment");
