@@ -1,6 +1,6 @@
 """What became of each frame of a capture, for `picture` and `summary`.
 
-The frames go to the program `calls` (target/bin/calls, proved and built by `rt check calls`), which says after each what
+The frames go to the program `calls` (proved and built by `rt check calls`, made runnable by tests/runnable), which says after each what
 it answered and which slots are open. Where `calls` is not built, `tests/model.py table`, the second reading of the
 requirements, answers the same lines. Source, tag and place of a frame are read by tests/model.py.
 """
@@ -93,7 +93,7 @@ def look(frame, data):
 def ask(lines, program):
     """The answers of `calls`, one for each line."""
     if program is None:
-        built = TOP / "target/bin/calls"
+        built = TOP / "target/run/calls"
         program = [built] if built.exists() else [sys.executable, TOP / "tests/model.py", "table"]
     run = subprocess.run(program, input="\n".join(lines) + "\n", stdout=subprocess.PIPE, text=True)
     answers = run.stdout.splitlines()
@@ -143,7 +143,7 @@ def tell(data, program=None, gateways=()):
 
 def place(frame, before, held, parts):
     """Finds the frame's slot, and puts it to the parts of that slot."""
-    if frame.answer == "no" and frame.value != 11:
+    if frame.answer == "no" and frame.value not in (11, 17):
         return
     for slot, key in {**before, **held}.items():
         if belongs(frame, key):

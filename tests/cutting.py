@@ -221,10 +221,18 @@ def run(program, count, seed):
 
 # ------------------------------------------------------------------------------- what is cut, through the other reading
 
+def holds(datagram):
+    """Whether the checksum is right that a UDP header would carry once it is compressed; so too where none is."""
+    number, at, _ = f.headers_of(datagram, 0, True)[-1]
+    udp = datagram[at:at + 6] + b"\0\0" + datagram[at + 8:]
+    return number != f.UDP or f.udp_checksum(datagram[8:24], datagram[24:40], udp).to_bytes(2, "big") == datagram[at + 6:at + 8]
+
+
 def whole(count, seed):
     """02: "these frames in any order, each at least once, fed as demand 3 asks to a table that lists the source (with PAN), hand out the
-    same datagram", for both readings here; every frame at most the limit, none equal to another, each part as long as can be."""
-    rng, came = random.Random(seed), 0
+    same datagram", for both readings here; every frame at most the limit, none equal to another, each part as long as can be. Item 7:
+    "the premise that a carried checksum so tested is right"; where it is not, 17."""
+    rng, came, refused = random.Random(seed), 0, 0
     for number in range(count):
         src, dst = rng.choice(LINKS), rng.choice(LINKS)
         limit = rng.choice((80, 81, 100, 127, rng.randrange(80, 128)))
@@ -243,11 +251,15 @@ def whole(count, seed):
             answered = table.call(time, one, b"", mem, out)
             left.discard(one)
             if not left:
-                assert answered == ("out", len(datagram)) and out[:len(datagram)] == datagram, (number, answered)
+                if holds(datagram):
+                    assert answered == ("out", len(datagram)) and out[:len(datagram)] == datagram, (number, answered)
+                    came += 1
+                else:
+                    assert answered == ("no", 17) and not any(out), (number, answered)
+                    refused += 1
                 break
             assert answered == ("kept",), (number, answered)
-        came += 1
-    print(f"cutting: {came} datagrams came back whole")
+    print(f"cutting: {came} datagrams came back whole, and {refused} whose checksum is wrong got 17")
 
 
 # ---------------------------------------------------------------------------------------------------------- vectors
@@ -393,7 +405,7 @@ def answer_lines():
 def main():
     parser = argparse.ArgumentParser(description=__doc__.split("\n")[0])
     parser.add_argument("command", choices=("check", "write", "run", "whole", "answer"))
-    parser.add_argument("--cutter", default="target/bin/cutter")
+    parser.add_argument("--cutter", default="target/run/cutter")
     parser.add_argument("--count", type=int)
     parser.add_argument("--seed", type=int, default=1)
     options = parser.parse_args()

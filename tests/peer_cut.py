@@ -1,7 +1,7 @@
 #!/usr/bin/env python3
 """tshark as a peer of the sender: it puts the frames of the program `cutter` together, and the bytes are compared.
 
-    peer_cut.py [--cutter target/bin/cutter] [--step 1] [--kinds 1] [--limits 80,81,100,127] [--sizes 40,2047]
+    peer_cut.py [--cutter target/run/cutter] [--step 1] [--kinds 1] [--limits 80,81,100,127] [--sizes 40,2047]
 
 Not part of the gate. It wants tshark (Debian: apt-get install tshark). For every size and limit a datagram is drawn, in one of four kinds in turn
 (short or extended addresses, UDP that is compressed or not); with --kinds 4, in each. `cutter` writes its frames, each of which the second
@@ -79,7 +79,7 @@ def compare(rng, program, jobs):
 
 def main():
     parser = argparse.ArgumentParser(description=__doc__.split("\n")[0])
-    parser.add_argument("--cutter", default="target/bin/cutter")
+    parser.add_argument("--cutter", default="target/run/cutter")
     parser.add_argument("--step", type=int, default=1)
     parser.add_argument("--kinds", type=int, default=1)
     parser.add_argument("--limits", default="80,81,100,127")

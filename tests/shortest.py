@@ -1,7 +1,7 @@
 #!/usr/bin/env python3
 """Looks for the shortest compressed header by trying all of them (02, item 10), through the program `replay`.
 
-    shortest.py [--replay target/bin/replay] [--count 3000] [--seed 1]
+    shortest.py [--replay target/run/replay] [--count 3000] [--seed 1]
 
 For each header (two IPv6 addresses, next header, hop limit, two link-layer addresses) every one of the 8,192 first words
 of IPHC is tried, with the inline bytes that its fields force: those of the header's own addresses, next header and hop
@@ -195,7 +195,7 @@ WRONG = {
 
 def main():
     parser = argparse.ArgumentParser(description=__doc__, formatter_class=argparse.RawDescriptionHelpFormatter)
-    parser.add_argument("--replay", default="target/bin/replay", metavar="PROGRAM")
+    parser.add_argument("--replay", default="target/run/replay", metavar="PROGRAM")
     parser.add_argument("--count", type=int, default=3000, help="headers")
     parser.add_argument("--seed", type=int, default=1)
     args = parser.parse_args()
