@@ -9,7 +9,7 @@ use Rattle.octets.specs.declared.field.ByteField.{ByteField}
 use Rattle.ieee802154.specs.Control.{wordOf, supported, hasSequence, omitsSequence, hasAddressing, carried01, carried2, carried, hasElements, saysElements}
 use Rattle.ieee802154.specs.Addressing.{panField, addressField, side, sides, addressing}
 use Rattle.ieee802154.specs.Security.{auxiliary}
-use Rattle.ieee802154.specs.Mac.{sequenceOf, suppresses, reprOf, headerRest, afterControl, header, mac, frontBytes, sourceBytes, backBytes, bytesOf}
+use Rattle.ieee802154.specs.Mac.{sequence, sequenceOf, suppresses, reprOf, headerRest, afterControl, header, mac, frontBytes, sourceBytes, backBytes, bytesOf}
 use Rattle.ieee802154.specs.RoundTrips.{pansStand, roundTrips}
 use Rattle.ieee802154.specs.declared.addr.Address.the-variants.{Short}
 use Rattle.ieee802154.specs.declared.addr.PanField.{PanField}
@@ -37,7 +37,7 @@ k11-header =
 
 -- K11: PAN abcd, short ffff, short 1234, 9 bytes; emits the same
 pub k11 : (mac k11-bytes ≡ got k11-header 9) × (bytesOf k11-header ≡ k11-bytes)
-unfolding mac header byte le16 headerRest supported addressing hasAddressing sides side carried carried01 panField addressField auxiliary reprOf sequenceOf hasSequence bytesOf frontBytes backBytes sourceBytes wordOf byteBytes le16Bytes afterControl omitsSequence suppresses
+unfolding mac header byte le16 sequence headerRest supported addressing hasAddressing sides side carried carried01 panField addressField auxiliary reprOf sequenceOf hasSequence bytesOf frontBytes backBytes sourceBytes wordOf byteBytes le16Bytes afterControl omitsSequence suppresses
 k11 = (refl, refl)
 
 -- it is one of those that read back
@@ -67,7 +67,7 @@ behind = 0xcd ∷ 0xab ∷ 0xff ∷ 0xff ∷ 0x34 ∷ 0x12 ∷ []
 
 -- version 2, a Data frame, bit 8: no byte, and written the same; it reads back
 pub suppressed : (mac (0x41 ∷ 0xa9 ∷ behind) ≡ got (other 1 2 ByteField.None) 8) × (bytesOf (other 1 2 ByteField.None) ≡ 0x41 ∷ 0xa9 ∷ behind)
-unfolding mac header byte le16 headerRest supported addressing hasAddressing sides side carried carried2 panField addressField auxiliary reprOf sequenceOf hasSequence bytesOf frontBytes backBytes sourceBytes wordOf byteBytes le16Bytes afterControl omitsSequence suppresses
+unfolding mac header byte le16 sequence headerRest supported addressing hasAddressing sides side carried carried2 panField addressField auxiliary reprOf sequenceOf hasSequence bytesOf frontBytes backBytes sourceBytes wordOf byteBytes le16Bytes afterControl omitsSequence suppresses
 suppressed = (refl, refl)
 
 pub suppressed-reads-back : roundTrips (other 1 2 ByteField.None) ≡ true
@@ -76,7 +76,7 @@ suppressed-reads-back = refl
 
 -- the bit says nothing in version 1, and nothing of a Multipurpose frame: the byte is there
 pub not-suppressed : (mac (0x41 ∷ 0x99 ∷ 0x05 ∷ behind) ≡ got (other 1 1 (ByteField.Some 5)) 9) × (mac (0x45 ∷ 0xa9 ∷ 0x05 ∷ behind) ≡ got (other 5 2 (ByteField.Some 5)) 9)
-unfolding mac header byte le16 headerRest supported addressing hasAddressing sides side carried carried01 carried2 panField addressField auxiliary reprOf sequenceOf hasSequence afterControl omitsSequence
+unfolding mac header byte le16 sequence headerRest supported addressing hasAddressing sides side carried carried01 carried2 panField addressField auxiliary reprOf sequenceOf hasSequence afterControl omitsSequence
 not-suppressed = (refl, refl)
 
 -- nor is it written then, and a missing number is 0, as before

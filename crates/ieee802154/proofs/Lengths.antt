@@ -13,6 +13,7 @@ use Rattle.octets.proofs.Spans.{Spans, not-refused, spans-give, spans-refuse, s
 use Rattle.ieee802154.specs.Control.{controlOf, supported, omitsSequence, hasAddressing, carried}
 use Rattle.ieee802154.specs.Addressing.{panField, addressField, side, sides, addressing}
 use Rattle.ieee802154.specs.Security.{auxiliaryLength, auxiliary}
+use Rattle.ieee802154.proofs.ReadSteps.{after-is}
 use Rattle.ieee802154.specs.Mac.{sequenceOf, reprOf, headerRest, afterControl, header, mac}
 use Rattle.ieee802154.specs.declared.addr.Address.the-variants.{Short, Extended}
 use Rattle.ieee802154.specs.declared.addr.PanField.{PanField}
@@ -179,8 +180,7 @@ after-go k s h n false t l e =
     record { sequence = y .part; rest = rw t (rest-in k (sequenceOf k (y .part)) 3 s h n (omega arith) (rw d at (y .rest))) }
 
 after-in : (k : Control) (s : List ℕ) (h : Repr) (n : ℕ) → 2 ≤ length s → afterControl k s 2 ≡ got h n → HeaderIn k s h n
-unfolding afterControl
-after-in k s h n l e = after-go k s h n (omitsSequence k) refl l e
+after-in k s h n l e = after-go k s h n (omitsSequence k) refl l (sym (after-is k s 2) ∙ e)
 
 pub header-in : (s : List ℕ) (h : Repr) (n : ℕ) → header s 0 ≡ got h n → HeaderIn (controlIn s) s h n
 unfolding header

@@ -1,10 +1,11 @@
 -- The steps of the header's reader, for `search`: what an answer that a match took apart says of the specification's next step.
 use Prim.Native.Nat.{ℕ, _≤_}
 use mathlib.Core.List.{List}
+use mathlib.Core.Bool.{Bool, true, false}
 use lib.ListN.{length, getD, List·getD-eq-default}
 use mathlib.Core.Option.{Option}
 use mathlib.Core.Path.{_≡_, refl, sym, ap, _∙_}
-use Rattle.octets.specs.Read.{Answer, refused, Placed, Read, andThen, skip}
+use Rattle.octets.specs.Read.{Answer, is, refused, Placed, Read, got, andThen, choose, byte, skip, _>>=_}
 use Rattle.octets.specs.Refusal.{numberOf}
 use Rattle.octets.specs.declared.refusal.Refusal.{Refusal}
 use Rattle.octets.specs.declared.cursor.Cursor.{Cursor}
@@ -14,7 +15,9 @@ use Rattle.ieee802154.specs.Address.{ofEui, underLinkLocal}
 use Rattle.ieee802154.specs.declared.addr.Eui64.{Eui64}
 use Rattle.ieee802154.specs.Addressing.{ofPan, ofField, ofSide, ofAddressing, sides}
 use Rattle.octets.specs.declared.field.ByteField.{ByteField}
-use Rattle.ieee802154.specs.Mac.{headerRest, afterControl}
+use Rattle.ieee802154.specs.Mac.{ofSequence, sequence, sequenceOf, headerRest, afterControl}
+use Rattle.ieee802154.specs.Control.{omitsSequence}
+use Rattle.ieee802154.specs.declared.header.SequenceRead.{SequenceRead}
 use Rattle.ieee802154.specs.declared.addr.PanField.{PanField}
 use Rattle.ieee802154.specs.declared.addr.AddressField.{AddressField}
 use Rattle.ieee802154.specs.declared.control.AddressingMode.{AddressingMode}
@@ -52,6 +55,12 @@ on-addressing {x = x} {c = c} m k p q e = on-is ofAddressing (AddressingRead.Fie
 pub no-addressing : {B : Type 0} {y : AddressingRead} {e : Refusal} (m : Read Addressing) (k : Placed Addressing → Answer B) → ofAddressing y ≡ m → y ≡ AddressingRead.Refused e → refused (numberOf e) ≡ andThen m k
 no-addressing {e = e} m k p q = on-refused ofAddressing (AddressingRead.Refused e) (numberOf e) m k refl p q
 
+pub on-sequence : {B : Type 0} {r : Answer B} {y : SequenceRead} {x : ByteField} {c : Cursor} (m : Read ByteField) (k : Placed ByteField → Answer B) → ofSequence y ≡ m → y ≡ SequenceRead.Field x c → r ≡ k (record { value = x; next = c .at }) → r ≡ andThen m k
+on-sequence {x = x} {c = c} m k p q e = on-is ofSequence (SequenceRead.Field x c) (record { value = x; next = c .at }) m k refl p q e
+
+pub no-sequence : {B : Type 0} {y : SequenceRead} {e : Refusal} (m : Read ByteField) (k : Placed ByteField → Answer B) → ofSequence y ≡ m → y ≡ SequenceRead.Refused e → refused (numberOf e) ≡ andThen m k
+no-sequence {e = e} m k p q = on-refused ofSequence (SequenceRead.Refused e) (numberOf e) m k refl p q
+
 -- the interface identifier that a call gave, in a link-local address
 pub on-eui : (m : Option ℕ) (y x : Eui64) (r : Option Ipv6Addr) → ofEui y ≡ m → y ≡ x → r ≡ underLinkLocal (ofEui x) → r ≡ underLinkLocal m
 on-eui m y x r p q e = e ∙ ap (λ z. underLinkLocal (ofEui z)) (sym q) ∙ ap underLinkLocal p
@@ -63,8 +72,24 @@ skip-told n m s at r p e = e ∙ ap (λ z. skip z s at) p
 pub sides-told : (p q : Carried) (d s : AddressingMode) (l : List ℕ) (at : ℕ) (r : Read Addressing) → p ≡ q → r ≡ sides p d s l at → r ≡ sides q d s l at
 sides-told p q d s l at r h e = e ∙ ap (λ z. sides z d s l at) h
 
+-- what follows the frame control field, by whether the sequence number is left out
+pub after-is : (k : Control) (l : List ℕ) (at : ℕ) → afterControl k l at ≡ choose (omitsSequence k) (headerRest k ByteField.None l at) (_>>=_ byte (λ b. headerRest k (sequenceOf k b)) l at)
+unfolding afterControl sequence
+after-is k l at = by (omitsSequence k)
+  where
+    read : (m : Read ℕ) → andThen (andThen m (λ p. got (sequenceOf k (p .value)) (p .next))) (λ p. headerRest k (p .value) l (p .next)) ≡ andThen m (λ p. headerRest k (sequenceOf k (p .value)) l (p .next))
+    read (is p) = refl
+    read (refused n) = refl
+
+    by : (t : Bool) → andThen (choose t (got ByteField.None at) (_>>=_ byte (λ b. (λ m n. got (sequenceOf k b) n)) l at)) (λ p. headerRest k (p .value) l (p .next)) ≡ choose t (headerRest k ByteField.None l at) (_>>=_ byte (λ b. headerRest k (sequenceOf k b)) l at)
+    by true = refl
+    by false = read (byte l at)
+
 pub after-told : (k j : Control) (l : List ℕ) (at : ℕ) (r : Read Repr) → k ≡ j → r ≡ afterControl k l at → r ≡ afterControl j l at
 after-told k j l at r h e = e ∙ ap (λ z. afterControl z l at) h
+
+pub sequence-told : (p q : ByteField) (n : ℕ) (r : Read ByteField) → p ≡ q → r ≡ got p n → r ≡ got q n
+sequence-told p q n r h e = e ∙ ap (λ z. got z n) h
 
 pub rest-told : (k : Control) (p q : ByteField) (l : List ℕ) (at : ℕ) (r : Read Repr) → p ≡ q → r ≡ headerRest k p l at → r ≡ headerRest k q l at
 rest-told k p q l at r h e = e ∙ ap (λ z. headerRest k z l at) h
@@ -73,4 +98,4 @@ rest-told k p q l at r h e = e ∙ ap (λ z. headerRest k z l at) h
 pub past-end : (s : List ℕ) (at : ℕ) → length s ≤ at → 0 ≡ getD s at 0
 past-end s at h = sym (List·getD-eq-default s 0 h)
 
-pub ruleset read-steps = (on-pan, no-pan, on-address, no-address, on-side, no-side, on-addressing, no-addressing, skip-told, sides-told, after-told, rest-told)
+pub ruleset read-steps = (on-pan, no-pan, on-address, no-address, on-side, no-side, on-addressing, no-addressing, on-sequence, no-sequence, skip-told, sides-told, after-told, rest-told, sequence-told)

@@ -29,6 +29,7 @@ use Rattle.ieee802154.specs.declared.control.Carried.{Carried}
 use Rattle.ieee802154.specs.declared.addressing.Side.{Side}
 use Rattle.ieee802154.specs.declared.addressing.Addressing.{Addressing}
 use Rattle.ieee802154.specs.declared.header.Repr.{Repr}
+use Rattle.ieee802154.proofs.ReadSteps.{after-is}
 use Rattle.ieee802154.proofs.WriteSteps.{length-bytes}
 
 -- ---- an address as bytes
@@ -360,12 +361,13 @@ after-go h d false e =
     reads-then byte (λ b. headerRest k (sequenceOf k b)) (byteBytes q) (afterSequence h) q h (reads-byte q) (subst (λ z. Reads (headerRest k z) (afterSequence h) h) (sym e) (reads-rest h d))
 
 reads-after : (h : Repr) → Domain h → Reads (afterControl (controlFor h)) (sequenceBytes (suppresses h) (h .«sequence_number») ++ afterSequence h) h
-unfolding afterControl
 reads-after h d =
     let k = controlFor h in
     let m = headerRest k ByteField.None in
     let f = _>>=_ byte (λ b. headerRest k (sequenceOf k b)) in
-    subst (λ t. Reads (branch t m f) (sequenceBytes (suppresses h) (h .«sequence_number») ++ afterSequence h) h) (sym (omits-is h)) (after-go h d (suppresses h) (sequence-back h d))
+    let bs = sequenceBytes (suppresses h) (h .«sequence_number») ++ afterSequence h in
+    let r : Reads (branch (omitsSequence k) m f) bs h = subst (λ t. Reads (branch t m f) bs h) (sym (omits-is h)) (after-go h d (suppresses h) (sequence-back h d)) in
+    λ p q n e. after-is k (p ++ (bs ++ q)) n ∙ r p q n e
 
 pub suffices : (h : Repr) → roundTrips h ≡ true → Reads header (bytesOf h) h
 unfolding header

@@ -16,10 +16,15 @@ use Rattle.ieee802154.specs.declared.control.Control.{Control}
 use Rattle.ieee802154.specs.declared.addressing.Addressing.{Addressing}
 use Rattle.ieee802154.specs.declared.header.Repr.{Repr}
 use Rattle.ieee802154.specs.declared.header.Parsed.{Parsed}
+use Rattle.ieee802154.specs.declared.header.SequenceRead.{SequenceRead}
 
 abbrev pub ofParsed : Parsed → Read Repr
 ofParsed (Parsed.Header h n) = got h n
 ofParsed (Parsed.Refused e) = refused (numberOf e)
+
+abbrev pub ofSequence : SequenceRead → Read ByteField
+ofSequence (SequenceRead.Field q c) = got q (c .at)
+ofSequence (SequenceRead.Refused e) = refused (numberOf e)
 
 -- ---- reading
 -- the byte is passed over in every frame that does not leave it out, and is the sequence number of some types
@@ -51,12 +56,18 @@ headerRest k q =
       give (reprOf k q a))
     (refuse 3)
 
-unfoldable pub afterControl : Control → Reader Repr
-afterControl k =
-    branch (omitsSequence k) (headerRest k ByteField.None)
+-- the sequence number, unless it is left out
+unfoldable pub sequence : Control → Reader ByteField
+sequence k =
+    branch (omitsSequence k) (give ByteField.None)
     (do
-      q ← byte
-      headerRest k (sequenceOf k q))
+      b ← byte
+      give (sequenceOf k b))
+
+unfoldable pub afterControl : Control → Reader Repr
+afterControl k = do
+  q ← sequence k
+  headerRest k q
 
 unfoldable pub header : Reader Repr
 header = do

@@ -1,7 +1,7 @@
 // MAC headers, read and written.
 ghost use mathlib.Core.Path.{_≡_};
 ghost use Rattle.octets.specs.Write.{put, ofWritten, wrote, over};
-ghost use Rattle.ieee802154.specs.Mac.{ofParsed, sequenceOf, sequenceOr, suppresses, reprOf, controlFor, headerRest, afterControl, header, mac, frontLength, lengthOf, frontBytes, sourceBytes, backBytes, bytesOf};
+ghost use Rattle.ieee802154.specs.Mac.{ofParsed, ofSequence, sequence, sequenceOf, sequenceOr, suppresses, reprOf, controlFor, headerRest, afterControl, header, mac, frontLength, lengthOf, frontBytes, sourceBytes, backBytes, bytesOf};
 use super::addr::AddressField;
 use super::addr::PanField;
 use super::addressing::Addressing;
@@ -49,6 +49,11 @@ fn sequence_or_zero(q: ByteField) -> u8
         ByteField::None => 0,
         ByteField::Some(x) => x,
     }
+}
+
+pub enum SequenceRead {
+    Field(ByteField, Cursor),
+    Refused(Refusal),
 }
 
 impl Repr {
@@ -105,19 +110,26 @@ impl Repr {
         }
     }
 
+    // The sequence number, unless it is left out.
+    fn read_sequence(buf: &[u8], k: Control, c: Cursor) -> SequenceRead
+        ensures { λ r. ⌜ ofSequence r ≡ sequence k (now (buf .entry)) (c .at) ⌝ }
+    {
+        if k.omits_sequence() {
+            return SequenceRead::Field(ByteField::None, c);
+        }
+        match c.byte(buf) {
+            ByteRead::Field(b, d) => SequenceRead::Field(Repr::sequence(k, b), d),
+            ByteRead::Refused(e) => SequenceRead::Refused(e),
+        }
+    }
+
     // What follows the frame control field.
     fn after_control(buf: &[u8], k: Control, c: Cursor) -> Parsed
         ensures { λ r. ⌜ ofParsed r ≡ afterControl k (now (buf .entry)) (c .at) ⌝ }
     {
-        if k.omits_sequence() {
-            return Repr::rest(buf, k, ByteField::None, c);
-        }
-        match c.byte(buf) {
-            ByteRead::Field(q, d) => {
-                let sequence = Repr::sequence(k, q);
-                Repr::rest(buf, k, sequence, d)
-            }
-            ByteRead::Refused(e) => Parsed::Refused(e),
+        match Repr::read_sequence(buf, k, c) {
+            SequenceRead::Field(q, d) => Repr::rest(buf, k, q, d),
+            SequenceRead::Refused(e) => Parsed::Refused(e),
         }
     }
 

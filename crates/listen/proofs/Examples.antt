@@ -19,7 +19,7 @@ use Rattle.capture.proofs.Made.{made-count, made-good, made-frames}
 use Rattle.ieee802154.specs.Control.{supported, saysElements, hasSequence, omitsSequence, hasAddressing, carried01, carried}
 use Rattle.ieee802154.specs.Addressing.{panField, addressField, side, sides, addressing}
 use Rattle.ieee802154.specs.Security.{auxiliary}
-use Rattle.ieee802154.specs.Mac.{sequenceOf, reprOf, headerRest, afterControl, header, mac}
+use Rattle.ieee802154.specs.Mac.{sequence, sequenceOf, reprOf, headerRest, afterControl, header, mac}
 use Rattle.ieee802154.specs.declared.addr.Address.the-variants.{Short}
 use Rattle.relay.specs.Headers.{meshField, broadcastField, relay}
 use Rattle.sixlowpan.specs.Dispatch.{dispatchOf, dispatch}
@@ -63,12 +63,12 @@ handed =
     ∷ 0x01 ∷ 0x02 ∷ 0x03 ∷ 0x04 ∷ []
 
 brought : frameCall gates [] 0 (frameFrom 0x01 0x00 .frame) ≡ other 0 (Parts.out handed)
-unfolding frameCall admitted welcome arrival framed relay meshField broadcastField payload whole dispatch dispatchOf mac header byte le16 headerRest afterControl supported saysElements omitsSequence addressing hasAddressing sides side carried carried01 panField addressField auxiliary reprOf sequenceOf hasSequence isGate sameSource sameNode present addressed count tested holds
+unfolding frameCall admitted welcome arrival framed relay meshField broadcastField payload whole dispatch dispatchOf mac header byte le16 sequence headerRest afterControl supported saysElements omitsSequence addressing hasAddressing sides side carried carried01 panField addressField auxiliary reprOf sequenceOf hasSequence isGate sameSource sameNode present addressed count tested holds
 brought =
     ap (λ (e : Answer Expansion). brings 0 (record { src = Short 1; pan = PanField.Some (record { 0 = 0xabcd }); dst = Short 0xffff; at = 9 }) (andThen e (λ (x : Expansion). is (datagram (x .bytes) (x .sum))))) printed-example
 
 turned-away : frameCall gates [] 0 (frameFrom 0x34 0x12 .frame) ≡ other 0 (Parts.refused 9)
-unfolding frameCall admitted welcome arrival framed relay meshField broadcastField mac header byte le16 headerRest afterControl supported saysElements omitsSequence addressing hasAddressing sides side carried carried01 panField addressField auxiliary reprOf sequenceOf hasSequence isGate sameSource sameNode present addressed count
+unfolding frameCall admitted welcome arrival framed relay meshField broadcastField mac header byte le16 sequence headerRest afterControl supported saysElements omitsSequence addressing hasAddressing sides side carried carried01 panField addressField auxiliary reprOf sequenceOf hasSequence isGate sameSource sameNode present addressed count
 turned-away = refl
 
 -- "1 out 44", "2 no 9"

@@ -172,7 +172,7 @@ abbrev arrives : ℕ → Arrival
 arrives n = record { src = Short n; pan = PanField.Some (record { 0 = 0xabcd }); dst = Short 0xffff; at = 9 }
 
 frames-read : (framed relayed-frame ≡ is (arrives 0x77)) × (framed (Worked.from 1 0xcd 0xab 0x01 later-bytes) ≡ is (arrives 1)) × (relayBytes by-relay ≡ 0xb5 ∷ 0x00 ∷ 0x01 ∷ 0xff ∷ 0xff ∷ [])
-unfolding framed byte be16 le16 supported saysElements hasSequence omitsSequence hasAddressing carried01 carried panField addressField side sides addressing auxiliary Mac.sequenceOf Mac.reprOf Mac.headerRest Mac.afterControl Mac.header Mac.mac hopsBytes byteBytes be16Bytes
+unfolding framed byte be16 le16 supported saysElements hasSequence omitsSequence hasAddressing carried01 carried panField addressField side sides addressing auxiliary Mac.sequence Mac.sequenceOf Mac.reprOf Mac.headerRest Mac.afterControl Mac.header Mac.mac hopsBytes byteBytes be16Bytes
 frames-read = (refl, refl, refl)
 
 pub relayed-brings : (t : ℕ) (w : Other) → frameCall (gateways w) [] t relayed-frame ≡ Table.part t (high old-key last-month 7 (carriedAt 0 40))

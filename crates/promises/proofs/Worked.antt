@@ -152,7 +152,7 @@ module _ (t : ℕ) where
       → (frameCall (gateways w) [] t old-first ≡ part t (low old-key last-month 7 (carriedAt 0 40)))
       × (frameCall (gateways w) [] t (new-first w) ≡ part t (low (new-key w) (this-month w) 7 (carriedAt 0 40)))
       × (frameCall (gateways w) [] t elided-frame ≡ part t (low old-key resent 7 (elidedAt 0 40)))
-  unfolding byte be16 le16 byteBytes be16Bytes be32Bytes be64Bytes put supported saysElements hasSequence omitsSequence hasAddressing carried01 carried panField addressField side sides addressing auxiliary Mac.sequenceOf Mac.reprOf Mac.headerRest Mac.afterControl Mac.header Mac.mac dispatchOf dispatch fragRest frag nextHeader nhcOf nhc bothPorts ports checksum udpRest udp Iphc.base Iphc.contexts Iphc.traffic Iphc.hopLimit Iphc.frontRest Iphc.front Iphc.identifier Iphc.prefixOf Iphc.elided Iphc.source Iphc.destination Iphc.addresses Iphc.reprOf Iphc.behind Iphc.iphc Full.frontWith Full.bothBytes Full.ipv6With Full.udpFull octets extData extBody innerByte udpStep linkOf link behindNext headerThen udpEnd onward chain chained extFull sizeOf fullBytes sumIn Expand.bytesOf Expand.sized Expand.expansion meshField broadcastField relay framed arrival piece fragment payload count sameSource sameNode present addressed isGate keyOf welcome admitted frameCall zeroed
+  unfolding byte be16 le16 byteBytes be16Bytes be32Bytes be64Bytes put supported saysElements hasSequence omitsSequence hasAddressing carried01 carried panField addressField side sides addressing auxiliary Mac.sequence Mac.sequenceOf Mac.reprOf Mac.headerRest Mac.afterControl Mac.header Mac.mac dispatchOf dispatch fragRest frag nextHeader nhcOf nhc bothPorts ports checksum udpRest udp Iphc.base Iphc.contexts Iphc.traffic Iphc.hopLimit Iphc.frontRest Iphc.front Iphc.identifier Iphc.prefixOf Iphc.elided Iphc.source Iphc.destination Iphc.addresses Iphc.reprOf Iphc.behind Iphc.iphc Full.frontWith Full.bothBytes Full.ipv6With Full.udpFull octets extData extBody innerByte udpStep linkOf link behindNext headerThen udpEnd onward chain chained extFull sizeOf fullBytes sumIn Expand.bytesOf Expand.sized Expand.expansion meshField broadcastField relay framed arrival piece fragment payload count sameSource sameNode present addressed isGate keyOf welcome admitted frameCall zeroed
   first-brings neighbour = (refl, refl, refl)
   first-brings building = (refl, refl, refl)
 
@@ -161,6 +161,6 @@ module _ (t : ℕ) where
       → (frameCall (gateways w) [] t old-later ≡ part t (high old-key last-month 7 (carriedAt 0 40)))
       × (frameCall (gateways w) [] t (new-later w) ≡ part t (high (new-key w) (this-month w) 7 (carriedAt 0 40)))
       × (frameCall (gateways w) [] t resent-later ≡ part t (high old-key resent 7 (elidedAt 0 40)))
-  unfolding byte be16 le16 supported saysElements hasSequence omitsSequence hasAddressing carried01 carried panField addressField side sides addressing auxiliary Mac.sequenceOf Mac.reprOf Mac.headerRest Mac.afterControl Mac.header Mac.mac dispatchOf dispatch fragRest frag meshField broadcastField relay framed arrival piece fragment payload count sameSource sameNode present addressed isGate keyOf welcome admitted frameCall zeroed
+  unfolding byte be16 le16 supported saysElements hasSequence omitsSequence hasAddressing carried01 carried panField addressField side sides addressing auxiliary Mac.sequence Mac.sequenceOf Mac.reprOf Mac.headerRest Mac.afterControl Mac.header Mac.mac dispatchOf dispatch fragRest frag meshField broadcastField relay framed arrival piece fragment payload count sameSource sameNode present addressed isGate keyOf welcome admitted frameCall zeroed
   later-brings neighbour = (refl, refl, refl)
   later-brings building = (refl, refl, refl)
