@@ -48,7 +48,7 @@ use Rattle.expand.proofs.FullLaws.{length-ipv6, length-udp, length-ext,
 use Rattle.expand.proofs.ExpandLaws.{rest-told}
 
 -- ---- how far a step reads
-abbrev Reach : Link → ℕ → ℕ → Type 0
+abbrev pub Reach : Link → ℕ → ℕ → Type 0
 Reach (udpLink h) at n = at < n
 Reach (extLink x d next) at n = at + 2 + length d ≤ n
 Reach innerLink at n = at < n
@@ -119,7 +119,7 @@ kind-reach Header s at l n e = inner-reach s at l n e
 kind-reach Reserved s at l n e = not-refused _ 13 e
 
 -- an extension header, or the byte of EID 7, wants a header left
-abbrev Wants : Link → ℕ → Type 0
+abbrev pub Wants : Link → ℕ → Type 0
 Wants (udpLink h) left = Unit {0}
 Wants (extLink x d next) left = 1 ≤ left
 Wants innerLink left = 1 ≤ left
@@ -166,7 +166,7 @@ iphc-reach ctx ls ld s at h n e =
     (omega (arith, f .length-is), f .within)
 
 -- ---- the number in front of a step
-abbrev linkNumber : Link → ℕ
+abbrev pub linkNumber : Link → ℕ
 linkNumber (udpLink h) = 17
 linkNumber (extLink x d next) = x
 linkNumber innerLink = 41
@@ -177,7 +177,7 @@ data-number id h s from l n false e =
     let i = invert (octets (h .length) s from) (λ p. got (extLink (fullNumber id) (p .value) (h .«next_header»)) (p .next)) _ e in
     ap linkNumber (got-value (extLink (fullNumber id) (i .value .value) (h .«next_header»)) l (i .value .next) n (i .second))
 
-body-number : (id : ExtHeaderId) (s : List ℕ) (at : ℕ) (l : Link) (n : ℕ) → extBody id s at ≡ got l n → fullNumber id ≡ linkNumber l
+pub body-number : (id : ExtHeaderId) (s : List ℕ) (at : ℕ) (l : Link) (n : ℕ) → extBody id s at ≡ got l n → fullNumber id ≡ linkNumber l
 unfolding extBody extData
 body-number id s at l n e =
     let i = invert (ext s at) (λ p. extData id (p .value) s (p .next)) _ e in

@@ -151,8 +151,8 @@ take-put n k [] l h = refl
 take-put n k (b ∷ bs) l h = take-put n (k + 1) bs (set l k b) (omega arith) ∙ take-set-le n l k b h
 
 -- in the second of two parts
-put-behind : (a x bs : List ℕ) (n k : ℕ) → length a ≡ n → k + length bs ≤ length x → put (n + k) bs (a ++ x) ≡ a ++ put k bs x
-put-behind a x bs n k e h =
+pub put-behind : (a x bs : List ℕ) (n k : ℕ) → length a ≡ n → put (n + k) bs (a ++ x) ≡ a ++ put k bs x
+put-behind a x bs n k e =
     let y = put (n + k) bs (a ++ x) in
     let f : take n y ≡ a = take-put n (n + k) bs (a ++ x) (omega arith) ∙ take-at a x n e in
     let g : drop n y ≡ put k bs x = drop-put n k bs (a ++ x) ∙ ap (put k bs) (drop-at a x n e) in
@@ -166,7 +166,7 @@ module _ (i u : ℕ) (d : List ℕ) (apart : i + 40 ≤ u) (low : u + 8 ≤ leng
       let e : u + 6 ≡ i + j = omega arith in
       let a : take 40 (drop i (put (u + 6) bs d)) ≡ take 40 (drop i d) = ap (λ z. take 40 (drop i (put z bs d))) e ∙ ap (take 40) (drop-put i j bs d) ∙ take-put 40 j bs (drop i d) (omega arith) in
       let la : length (take 40 (drop i d)) ≡ 40 = omega (arith, length-take 40 (drop i d), length-drop i d) in
-      rw (a, drop-put u 6 bs d) (sym (put-behind (take 40 (drop i d)) (drop u d) bs 40 6 la (omega (arith, two, length-drop u d))))
+      rw (a, drop-put u 6 bs d) (sym (put-behind (take 40 (drop i d)) (drop u d) bs 40 6 la))
 
   pub seen-summed : seen i u (summedAt i u d) ≡ summed (seen i u d)
   unfolding summedAt checksumAt summed be16Bytes

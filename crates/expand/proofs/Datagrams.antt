@@ -63,7 +63,7 @@ absent-zero : (c : WordField) → isAbsent c ≡ true → wordOr c ≡ 0
 absent-zero WordField.None q = refl
 absent-zero (WordField.Some x) q = cc
 
-was-absent : (t : Bool) (i o : ℕ) (c : WordField) → wasElided (sumFor t i o c) ≡ true → (isAbsent c ≡ true) × (sumFor t i o c .udp ≡ o)
+pub was-absent : (t : Bool) (i o : ℕ) (c : WordField) → wasElided (sumFor t i o c) ≡ true → (isAbsent c ≡ true) × (sumFor t i o c .udp ≡ o)
 was-absent true i o c q = (cc, cc)
 was-absent false i o WordField.None q = (refl, refl)
 was-absent false i o (WordField.Some x) q = (cc, cc)
@@ -106,7 +106,7 @@ pub record Outer (c : Chain) : Type 0 where
   pub behind : Chain
   pub is-both : ipv6 header behind ≡ c
 
-outer-first : (ctx : List ℕ) (ls ld : AddressField) (s : List ℕ) (at : ℕ) (c : Chain) (n : ℕ) → chained ctx ls ld s at ≡ got c n → Outer c
+pub outer-first : (ctx : List ℕ) (ls ld : AddressField) (s : List ℕ) (at : ℕ) (c : Chain) (n : ℕ) → chained ctx ls ld s at ≡ got c n → Outer c
 unfolding chained headerThen
 outer-first ctx ls ld s at c n e =
     let i = invert (iphc ctx ls ld s at) (λ p. andThen (behindNext (p .value .«next_header») (chain 7 ctx (within (p .value))) s (p .next)) (λ q. got (ipv6 (p .value) (q .value)) (q .next))) _ e in

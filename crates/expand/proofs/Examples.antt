@@ -4,7 +4,7 @@ use Prim.Native.Nat.{ℕ}
 use mathlib.Core.List.{List, [], _∷_, _++_}
 use mathlib.Core.Bool.{Bool, true, false}
 use mathlib.Core.Path.{_≡_, refl}
-use lib.ListN.{drop}
+use lib.ListN.{take, drop}
 use Rattle.octets.specs.Read.{Answer, is, refused, byte, be16, skip}
 use Rattle.octets.specs.Write.{put, byteBytes, be16Bytes, be32Bytes, be64Bytes}
 use Rattle.octets.specs.declared.field.WordField.{WordField}
@@ -19,6 +19,7 @@ use Rattle.sixlowpan.specs.NhcExt.{idOf, extRest, ext}
 use Rattle.expand.specs.Chain.{octets, extData, extBody, innerByte, udpStep, linkOf, link, behindNext, headerThen, udpEnd, onward, chain, chained, extFull, sizeOf, fullBytes, sumIn}
 use Rattle.expand.specs.Full.{frontWith, bothBytes, ipv6With, udpFull}
 use Rattle.expand.specs.Expand.{Expansion, bytesOf, sized, expansion}
+use Rattle.expand.specs.Rfc8200.{isIpv6, hasExtension, isUdp, Last, endsIn, reads, isDatagram}
 
 -- from short address 0001 to ffff; the compressed header begins at byte 9, behind the MAC header
 abbrev of : WordField → List ℕ → Answer Expansion
@@ -86,3 +87,30 @@ pub ninth-example : (of WordField.None (0x7e ∷ 0x33 ∷ 0xe1 ∷ 0x00 ∷ 0xe1
     × (of WordField.None (0x7e ∷ 0x33 ∷ 0xe1 ∷ 0x00 ∷ 0xe1 ∷ 0x00 ∷ 0xe1 ∷ 0x00 ∷ 0xe1 ∷ 0x00 ∷ 0xe1 ∷ 0x00 ∷ 0xe1 ∷ 0x00 ∷ 0xea ∷ []) ≡ refused 13)
 unfolding byte be16 skip put byteBytes be16Bytes be32Bytes be64Bytes nextHeader base contexts labelled ecnAndLabel traffic hopLimit frontRest front identifier prefixOf elided source destination addresses reprOf behind iphc nhcOf nhc bothPorts ports checksum udpRest udp idOf extRest ext words onesSum pseudo covered udpChecksum seen checksumAt summedAt summedBy frontWith bothBytes ipv6With udpFull octets extData extBody innerByte udpStep linkOf link behindNext headerThen udpEnd onward chain chained extFull sizeOf fullBytes sumIn bytesOf sized expansion
 ninth-example = (refl, refl)
+
+-- ---- RFC 8200's own rules (specs/Rfc8200.antt)
+-- hop-by-hop options and UDP: payload length and next header of IPv6, length and next header of the options, and the length of UDP, as given
+abbrev hop : ℕ → ℕ → ℕ → ℕ → ℕ → List ℕ
+hop payload next units then len =
+    ipv6 payload next (then ∷ units ∷ 0x05 ∷ 0x02 ∷ 0x00 ∷ 0x00 ∷ 0x01 ∷ 0x00 ∷ 0xf0 ∷ 0xb1 ∷ 0xf0 ∷ 0xb2 ∷ 0x00 ∷ len ∷ 0xdf ∷ 0x9a ∷ 0x68 ∷ 0x65 ∷ 0x6c ∷ 0x6c ∷ 0x6f ∷ [])
+
+abbrev isHop : ℕ → List ℕ → Bool
+isHop t b = isDatagram (41 ∷ 0 ∷ []) Last.udp t b
+
+-- a datagram, and a first part of 200 bytes
+pub rules-accept : (isHop 61 (hop 0x15 0x00 0x00 0x11 0x0d) ≡ true) × (isHop 200 (hop 0xa0 0x00 0x00 0x11 0x98) ≡ true)
+unfolding isIpv6 hasExtension isUdp endsIn reads isDatagram
+rules-accept = (refl, refl)
+
+-- off by one: the payload length, the next header of IPv6, the length of the options, their next header, and the length of UDP; then bytes cut
+-- short, bytes beyond the datagram's end, and another list
+pub rules-refuse : (isHop 61 (hop 0x16 0x00 0x00 0x11 0x0d) ≡ false)
+    × (isHop 61 (hop 0x15 0x01 0x00 0x11 0x0d) ≡ false)
+    × (isHop 61 (hop 0x15 0x00 0x01 0x11 0x0d) ≡ false)
+    × (isHop 61 (hop 0x15 0x00 0x00 0x12 0x0d) ≡ false)
+    × (isHop 61 (hop 0x15 0x00 0x00 0x11 0x0e) ≡ false)
+    × (isHop 61 (take 55 (hop 0x15 0x00 0x00 0x11 0x0d)) ≡ false)
+    × (isHop 60 (hop 0x14 0x00 0x00 0x11 0x0c) ≡ false)
+    × (isDatagram (41 ∷ 60 ∷ []) Last.udp 61 (hop 0x15 0x00 0x00 0x11 0x0d) ≡ false)
+unfolding isIpv6 hasExtension isUdp endsIn reads isDatagram
+rules-refuse = (refl, refl, refl, refl, refl, refl, refl, refl)

@@ -11,5 +11,6 @@ pub mod Unique
 pub mod Labels
 pub mod Datagrams
 pub mod Plain
+pub mod Rfc8200Laws
 pub mod Examples
 pub mod Tested

@@ -29,6 +29,7 @@ use Rattle.sixlowpan.specs.declared.nhc.ExtHeaderRepr.{ExtHeaderRepr}
 use Rattle.sixlowpan.specs.declared.nhc.UdpNhcRepr.{UdpNhcRepr}
 use Rattle.expand.specs.Sum.{noSum, elidedAt, carriedAt}
 use Rattle.expand.specs.Full.{ipv6With, udpFull, isAbsent}
+use Rattle.expand.specs.Rfc8200.{Last}
 use Rattle.expand.specs.declared.checksum.UdpSum.{UdpSum}
 use Rattle.expand.specs.declared.chain.Step.{Step}
 use Rattle.expand.specs.declared.chain.Way.{Way}
@@ -240,6 +241,19 @@ sumIn routed i o (rest p d) = noSum
 sumIn routed i o (udpThen h d) = sumFor routed i o (h .checksum)
 sumIn routed i o (extension n d c) = sumIn (eqb n 43 || routed) i (o + fullSize (length d)) c
 sumIn routed i o (ipv6 h c) = sumIn false o (o + 40) c
+
+-- ---- the chain as RFC 8200 has it (`isDatagram`, specs/Rfc8200.antt): the numbers of its headers, and what it ends with
+unfoldable pub numbersOf : Chain → List ℕ
+numbersOf (rest p d) = []
+numbersOf (udpThen h d) = []
+numbersOf (extension n d c) = n ∷ numbersOf c
+numbersOf (ipv6 h c) = 41 ∷ numbersOf c
+
+unfoldable pub lastOf : Chain → Last
+lastOf (rest p d) = Last.payload p
+lastOf (udpThen h d) = Last.udp
+lastOf (extension n d c) = lastOf c
+lastOf (ipv6 h c) = lastOf c
 
 -- ---- what the contracts say
 -- a step of the code, in the frame s
