@@ -1,5 +1,5 @@
-// The compressed headers behind an IPv6 header, and what each becomes (RFC 6282, 4.2; RFC 8200, 4): header reads chain, chain reads header,
-// each step with fewer bytes left.
+// The compressed headers behind an IPv6 header, and what each becomes (RFC 6282, 4.2; RFC 8200, 4): header reads chain,
+// chain reads header, each step with fewer bytes left.
 ghost use mathlib.Core.Path.{_≡_};
 ghost use mathlib.Core.Bool.{_&&_, _||_};
 ghost use Prim.Native.Nat.{ℕ, _≤_, _<_, _+_, _-_, _*_};
@@ -8,7 +8,9 @@ ghost use lib.Dec.{eqb};
 ghost use Rattle.octets.specs.Read.{got};
 ghost use Rattle.octets.specs.Write.{put};
 ghost use Rattle.expand.specs.Full.{isAbsent};
-ghost use Rattle.expand.specs.Chain.{fullNumber, isPadded, badLength, fullSize, idAt, extKind, extData, extBody, innerByte, udpStep, link, inside, headerThen, behindNext, udpEnd, chain, nextNumber, sumFor, passed, entered, fewer, ofLink, around, rest, Walks};
+ghost use Rattle.expand.specs.Chain.{fullNumber, isPadded, badLength, fullSize, idAt, extKind, extData, extBody};
+ghost use Rattle.expand.specs.Chain.{innerByte, udpStep, link, inside, headerThen, behindNext, udpEnd, chain};
+ghost use Rattle.expand.specs.Chain.{nextNumber, sumFor, passed, entered, fewer, ofLink, around, rest, Walks};
 use super::checksum::UdpSum;
 use super::copy::left;
 use super::copy::put_part;
@@ -35,8 +37,8 @@ use sixlowpan::nhc::NhcPacket;
 use sixlowpan::nhc::UdpNhcRepr;
 use sixlowpan::nhc::UdpParsed;
 
-// What stands at a place of a chain, and the place behind it: a UDP header; an extension header, its number, its next header field and where
-// what follows its first two bytes stands; or the byte in front of an IPv6 header.
+// What stands at a place of a chain, and the place behind it: a UDP header; an extension header, its number, its next
+// header field and where what follows its first two bytes stands; or the byte in front of an IPv6 header.
 pub enum Step {
     Udp(UdpNhcRepr, usize),
     Extension {
@@ -49,8 +51,9 @@ pub enum Step {
     Refused(Refusal),
 }
 
-// How far an expansion has come: the addresses of the IPv6 header just outside, whether a routing header came since, how many headers may
-// still come, and in the datagram, whose length is `total`, where that IPv6 header stands and where the next header goes.
+// How far an expansion has come: the addresses of the IPv6 header just outside, whether a routing header came since,
+// how many headers may still come, and in the datagram, whose length is `total`, where that IPv6 header stands and
+// where the next header goes.
 pub struct Way {
     pub src: Ipv6Addr,
     pub dst: Ipv6Addr,
@@ -261,7 +264,8 @@ fn span(from: usize, to: usize) -> usize
 // The payload, to the end of the frame.
 fn end_rest(frame: &[u8], at: usize, w: Way, out: &mut [u8]) -> Walked
     requires { ⌜ (w .at ≤ 447) × (length (now frame) ≤ 127) ⌝ }
-    ensures { λ r. ⌜ ((p n : ℕ) → Walks r w (got (rest p (drop at (now (frame .entry)))) n) (now (out .entry)) (now (out .exit))) ⌝ }
+    ensures { λ r. ⌜ ((p n : ℕ) → Walks r w (got (rest p (drop at (now (frame .entry)))) n) (now (out .entry))
+        (now (out .exit))) ⌝ }
 {
     let o = w.at as usize;
     put_part(out, o, frame, at, frame.len());
@@ -381,7 +385,8 @@ fn is_routed(number: u8, routed: bool) -> bool
 // An IPv6 header inside another one, and the chain behind it.
 pub(crate) fn header(frame: &[u8], c: Cursor, contexts: &[u8], w: Way, out: &mut [u8]) -> Walked
     requires { ⌜ (w .at + 40 * (w .left + 1) + (length (now frame) - c .at) ≤ 447) × (length (now frame) ≤ 127) ⌝ }
-    ensures { λ r. ⌜ Walks r w (headerThen (now (contexts .entry)) (inside (w .src)) (inside (w .dst)) (chain (w .left) (now (contexts .entry))) (now (frame .entry)) (c .at)) (now (out .entry)) (now (out .exit)) ⌝ }
+    ensures { λ r. ⌜ Walks r w (headerThen (now (contexts .entry)) (inside (w .src)) (inside (w .dst))
+        (chain (w .left) (now (contexts .entry))) (now (frame .entry)) (c .at)) (now (out .entry)) (now (out .exit)) ⌝ }
 {
     let src = w.src;
     let dst = w.dst;
@@ -402,7 +407,8 @@ pub(crate) fn header(frame: &[u8], c: Cursor, contexts: &[u8], w: Way, out: &mut
     }
 }
 
-// What follows a next header field at a place of the frame: the payload, where it stood inline; else a compressed header, and what follows that.
+// What follows a next header field at a place of the frame: the payload, where it stood inline; else a compressed
+// header, and what follows that.
 pub(crate) fn chain(
     frame: &[u8],
     next: NextHeader,
@@ -412,7 +418,8 @@ pub(crate) fn chain(
     out: &mut [u8],
 ) -> Walked
     requires { ⌜ (w .at + 40 * w .left + (length (now frame) - c .at) ≤ 447) × (length (now frame) ≤ 127) ⌝ }
-    ensures { λ r. ⌜ Walks r w (behindNext next (chain (w .left) (now (contexts .entry)) (around w)) (now (frame .entry)) (c .at)) (now (out .entry)) (now (out .exit)) ⌝ }
+    ensures { λ r. ⌜ Walks r w (behindNext next (chain (w .left) (now (contexts .entry)) (around w))
+        (now (frame .entry)) (c .at)) (now (out .entry)) (now (out .exit)) ⌝ }
 {
     match next {
         NextHeader::Uncompressed(_) => end_rest(frame, c.at, w, out),

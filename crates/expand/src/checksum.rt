@@ -5,9 +5,9 @@ ghost use lib.ListN.{length};
 ghost use Rattle.expand.specs.Sum.{sumWords, be16At, checksumAt, stands, summedIn, holdsIn};
 use octets::write::put_be16;
 
-// What is to be known of a UDP checksum once its datagram is whole: nothing (kind 0), that it was elided (1) or that it was carried (2),
-// and where the IPv6 header just outside the UDP header and the UDP header itself stand; 0 where there is nothing to know. Numbers, as
-// the slot table keeps them.
+// What is to be known of a UDP checksum once its datagram is whole: nothing (kind 0), that it was elided (1) or that it
+// was carried (2), and where the IPv6 header just outside the UDP header and the UDP header itself stand; 0 where there
+// is nothing to know. Numbers, as the slot table keeps them.
 #[repr(C)]
 pub struct UdpSum {
     pub kind: u16,
@@ -29,8 +29,8 @@ fn wide(x: u8) -> u32
     x as u32
 }
 
-// The plain sum of the words of at most 65,534 bytes: below 2^31 and a little, so that with an address pair, ports, a length and 17 it is
-// below 2^32.
+// The plain sum of the words of at most 65,534 bytes: below 2^31 and a little, so that with an address pair, ports, a
+// length and 17 it is below 2^32.
 fn sum_words(s: &[u8]) -> u32
     requires { ⌜ length (now s) ≤ 65534 ⌝ }
     ensures { λ r. ⌜ (r ≡ sumWords (now (s .entry))) × (r ≤ (length (now (s .entry)) + 1) * 32768) ⌝ }
@@ -44,8 +44,8 @@ fn sum_words(s: &[u8]) -> u32
     if i < s.len() { x + wide(s[i]) * 256 } else { x }
 }
 
-// The checksum of the UDP header at the place `udp` of a datagram, with the addresses of the IPv6 header at the place `ip`; its own place
-// counts as zero.
+// The checksum of the UDP header at the place `udp` of a datagram, with the addresses of the IPv6 header at the place
+// `ip`; its own place counts as zero.
 fn checksum(d: &[u8], ip: usize, udp: usize) -> u16
     requires { ⌜ (ip + 40 ≤ udp) × (udp + 8 ≤ length (now d)) × (length (now d) ≤ udp + 65535) × (udp ≤ 65535) ⌝ }
     ensures { λ r. ⌜ r ≡ checksumAt ip udp (now (d .entry)) ⌝ }
@@ -78,8 +78,8 @@ fn stands(m: UdpSum, n: usize) -> bool
     false
 }
 
-// Computes an elided checksum of the datagram that the first n bytes are, and puts it into its place. Where it was not elided, or they can
-// be no such datagram, nothing is written.
+// Computes an elided checksum of the datagram that the first n bytes are, and puts it into its place. Where it was not
+// elided, or they can be no such datagram, nothing is written.
 pub fn put_checksum(buf: &mut [u8], n: usize, m: UdpSum)
     ensures { λ _. ⌜ now (buf .exit) ≡ summedIn m n (now (buf .entry)) ⌝ }
 {
@@ -104,8 +104,8 @@ fn word_at(d: &[u8], at: usize) -> u16
     (wide(d[at]) * 256 + wide(d[at + 1])) as u16
 }
 
-// Whether a carried checksum of the datagram that the first n bytes are is right. Where none was carried, or they can be no such datagram,
-// there is none to be wrong.
+// Whether a carried checksum of the datagram that the first n bytes are is right. Where none was carried, or they can
+// be no such datagram, there is none to be wrong.
 pub fn is_right(buf: &[u8], n: usize, m: UdpSum) -> bool
     ensures { λ r. ⌜ r ≡ holdsIn m n (now (buf .entry)) ⌝ }
 {

@@ -4,7 +4,8 @@ ghost use Prim.Native.Nat.{_≤_, _+_};
 ghost use lib.ListN.{length};
 ghost use Rattle.expand.specs.Sum.{summedIn};
 ghost use Rattle.expand.specs.Chain.{chain, behindNext, within, outer, Walks};
-ghost use Rattle.expand.specs.Expand.{ofExpanded, totalOf, finishedIn, headed, expansion, measured, answered, written};
+ghost use Rattle.expand.specs.Expand.{ofExpanded, totalOf, finishedIn, headed, expansion, measured, answered};
+ghost use Rattle.expand.specs.Expand.{written};
 use super::chain::Walked;
 use super::chain::Way;
 use super::chain::chain;
@@ -19,7 +20,8 @@ use octets::cursor::Cursor;
 use octets::field::WordField;
 use octets::refusal::Refusal;
 
-// How many bytes the datagram, or its first part, has, and what is to be remembered of its UDP checksum; or why there is none.
+// How many bytes the datagram, or its first part, has, and what is to be remembered of its UDP checksum; or why there
+// is none.
 pub enum Expanded {
     Datagram { len: usize, sum: UdpSum },
     Refused(Refusal),
@@ -48,7 +50,8 @@ fn put_elided(buf: &mut [u8], size: WordField, n: usize, m: UdpSum)
 // What follows the outer IPv6 header, in a datagram of a length: at most seven headers more.
 fn walk(frame: &[u8], ip: Repr, at: usize, contexts: &[u8], total: u16, out: &mut [u8]) -> Walked
     requires { ⌜ length (now frame) ≤ 127 ⌝ }
-    ensures { λ r. ⌜ Walks r (outer ip total) (behindNext (ip .«next_header») (chain 7 (now (contexts .entry)) (within ip)) (now (frame .entry)) at) (now (out .entry)) (now (out .exit)) ⌝ }
+    ensures { λ r. ⌜ Walks r (outer ip total) (behindNext (ip .«next_header»)
+        (chain 7 (now (contexts .entry)) (within ip)) (now (frame .entry)) at) (now (out .entry)) (now (out .exit)) ⌝ }
 {
     let next = ip.next_header;
     let src = ip.src_addr;
@@ -65,7 +68,8 @@ fn walk(frame: &[u8], ip: Repr, at: usize, contexts: &[u8], total: u16, out: &mu
     chain(frame, next, Cursor { at }, contexts, w, out)
 }
 
-// Measures the datagram whose IPv6 header was read. Nothing is written: in one byte there is no room for what follows that header.
+// Measures the datagram whose IPv6 header was read. Nothing is written: in one byte there is no room for what follows
+// that header.
 fn measure_headed(frame: &[u8], ip: Repr, at: usize, contexts: &[u8], size: WordField) -> Expanded
     requires { ⌜ length (now frame) ≤ 127 ⌝ }
     ensures { λ r. ⌜ ofExpanded r ≡ measured (headed (now (contexts .entry)) size ip (now (frame .entry)) at) ⌝ }
@@ -93,7 +97,10 @@ fn expand_headed(
     out: &mut [u8],
 ) -> Expanded
     requires { ⌜ length (now frame) ≤ 127 ⌝ }
-    ensures { λ r. ⌜ (ofExpanded r ≡ answered (headed (now (contexts .entry)) size ip (now (frame .entry)) at) (now (out .entry))) × (now (out .exit) ≡ written (headed (now (contexts .entry)) size ip (now (frame .entry)) at) (now (out .entry))) ⌝ }
+    ensures { λ r. ⌜ (ofExpanded r ≡ answered (headed (now (contexts .entry)) size ip (now (frame .entry)) at)
+        (now (out .entry)))
+        × (now (out .exit) ≡ written (headed (now (contexts .entry)) size ip (now (frame .entry)) at)
+        (now (out .entry))) ⌝ }
 {
     let mut nowhere = [0u8; 1];
     match walk(frame, ip, at, contexts, 0, &mut nowhere) {
@@ -116,9 +123,9 @@ fn expand_headed(
     }
 }
 
-// What `expand` would answer in room enough. The compressed header stands at the place c of the frame; `size` is the size
-// of the whole datagram where the frame is its first part. The link-layer addresses are those of the frame; the contexts
-// are flat bytes, 8 for each identifier.
+// What `expand` would answer in room enough. The compressed header stands at the place c of the frame; `size` is the
+// size of the whole datagram where the frame is its first part. The link-layer addresses are those of the frame; the
+// contexts are flat bytes, 8 for each identifier.
 pub fn measure(
     frame: &[u8],
     c: Cursor,
@@ -127,7 +134,8 @@ pub fn measure(
     contexts: &[u8],
     size: WordField,
 ) -> Expanded
-    ensures { λ r. ⌜ ofExpanded r ≡ measured (expansion (now (contexts .entry)) «ll_src» «ll_dst» size (now (frame .entry)) (c .at)) ⌝ }
+    ensures { λ r. ⌜ ofExpanded r ≡ measured (expansion (now (contexts .entry)) «ll_src» «ll_dst» size
+        (now (frame .entry)) (c .at)) ⌝ }
 {
     if 127 < frame.len() {
         return Expanded::Refused(Refusal::BadLength);
@@ -148,7 +156,10 @@ pub fn expand(
     size: WordField,
     out: &mut [u8],
 ) -> Expanded
-    ensures { λ r. ⌜ (ofExpanded r ≡ answered (expansion (now (contexts .entry)) «ll_src» «ll_dst» size (now (frame .entry)) (c .at)) (now (out .entry))) × (now (out .exit) ≡ written (expansion (now (contexts .entry)) «ll_src» «ll_dst» size (now (frame .entry)) (c .at)) (now (out .entry))) ⌝ }
+    ensures { λ r. ⌜ (ofExpanded r ≡ answered (expansion (now (contexts .entry)) «ll_src» «ll_dst» size
+        (now (frame .entry)) (c .at)) (now (out .entry)))
+        × (now (out .exit) ≡ written (expansion (now (contexts .entry)) «ll_src» «ll_dst» size (now (frame .entry))
+        (c .at)) (now (out .entry))) ⌝ }
 {
     if 127 < frame.len() {
         return Expanded::Refused(Refusal::BadLength);

@@ -3,7 +3,8 @@ ghost use mathlib.Core.Path.{_≡_};
 ghost use Prim.Native.Nat.{_<_, _≤_, _+_, _-_};
 ghost use lib.ListN.{length, take, drop};
 ghost use Rattle.octets.specs.Write.{put};
-ghost use Rattle.expand.specs.Full.{byteOr, wordOr, labelOr, classOf, firstWord, frontWith, bothBytes, ipv6With, udpFull};
+ghost use Rattle.expand.specs.Full.{byteOr, wordOr, labelOr, classOf, firstWord, frontWith, bothBytes, ipv6With};
+ghost use Rattle.expand.specs.Full.{udpFull};
 ghost use Rattle.expand.specs.Chain.{pad, fullSize, extFull};
 use super::copy::put_part;
 use iphc::LabelField;
@@ -132,7 +133,8 @@ pub(crate) fn put_extension(
     len: usize,
 )
     requires { ⌜ (at ≤ 60000) × (len ≤ 255) × (len ≤ length (now frame) - from) ⌝ }
-    ensures { λ _. ⌜ now (buf .exit) ≡ put at (extFull next (take len (drop from (now (frame .entry))))) (now (buf .entry)) ⌝ }
+    ensures { λ _. ⌜ now (buf .exit) ≡ put at (extFull next (take len (drop from (now (frame .entry)))))
+        (now (buf .entry)) ⌝ }
 {
     let size = full_size(len);
     put_byte(buf, at, next);

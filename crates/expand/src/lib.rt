@@ -2,8 +2,8 @@
 //
 // - `datagram`: `expand` writes the datagram that a frame stands for, or the first part of one, into lent bytes, and
 //   `measure` answers its length beforehand.
-// - `chain`: the compressed headers behind an IPv6 header, extension headers and IPv6 headers among them, read and put in full, one after the
-//   other. `ip`: the full headers, put.
+// - `chain`: the compressed headers behind an IPv6 header, extension headers and IPv6 headers among them, read and put
+//   in full, one after the other. `ip`: the full headers, put.
 // - `checksum`: the UDP checksum, computed and put into its place. `copy`: bytes of a slice put into lent bytes.
 //
 // No public function asks anything of its caller. Each answer equals a definition of specs/, written from the RFCs, on

@@ -15,8 +15,8 @@ use sixlowpan::dispatch::DispatchAnswer;
 use sixlowpan::frag;
 use sixlowpan::frag::Units;
 
-// What a payload is. The bytes of a whole datagram and of a first part, in full, stand at the scratch's start; those of a
-// later part stand in the frame, from a place on.
+// What a payload is. The bytes of a whole datagram and of a first part, in full, stand at the scratch's start; those of
+// a later part stand in the frame, from a place on.
 pub enum Payload {
     Whole {
         len: usize,
@@ -40,7 +40,8 @@ pub enum Payload {
 // An unfragmented datagram.
 fn read_whole(frame: &[u8], a: Arrival, contexts: &[u8], scratch: &mut [u8]) -> Payload
     requires { ⌜ 455 ≤ length (now scratch) ⌝ }
-    ensures { λ r. ⌜ Brings r (now (scratch .entry)) (now (scratch .exit)) (now (frame .entry)) (whole (now (contexts .entry)) a (now (frame .entry))) ⌝ }
+    ensures { λ r. ⌜ Brings r (now (scratch .entry)) (now (scratch .exit)) (now (frame .entry))
+        (whole (now (contexts .entry)) a (now (frame .entry))) ⌝ }
 {
     let src = a.src;
     let dst = a.dst;
@@ -63,7 +64,8 @@ fn read_part(
     scratch: &mut [u8],
 ) -> Payload
     requires { ⌜ (455 ≤ length (now scratch)) × (next ≤ length (now frame)) ⌝ }
-    ensures { λ r. ⌜ Brings r (now (scratch .entry)) (now (scratch .exit)) (now (frame .entry)) (piece (now (contexts .entry)) a h next (now (frame .entry))) ⌝ }
+    ensures { λ r. ⌜ Brings r (now (scratch .entry)) (now (scratch .exit)) (now (frame .entry))
+        (piece (now (contexts .entry)) a h next (now (frame .entry))) ⌝ }
 {
     match h {
         frag::Repr::FirstFragment { size, tag } => {
@@ -98,7 +100,8 @@ fn read_part(
 
 fn read_fragment(frame: &[u8], a: Arrival, contexts: &[u8], scratch: &mut [u8]) -> Payload
     requires { ⌜ 455 ≤ length (now scratch) ⌝ }
-    ensures { λ r. ⌜ Brings r (now (scratch .entry)) (now (scratch .exit)) (now (frame .entry)) (fragment (now (contexts .entry)) a (now (frame .entry))) ⌝ }
+    ensures { λ r. ⌜ Brings r (now (scratch .entry)) (now (scratch .exit)) (now (frame .entry))
+        (fragment (now (contexts .entry)) a (now (frame .entry))) ⌝ }
 {
     match frag::Repr::read(frame, Cursor { at: a.at }) {
         frag::Parsed::Header(h, next) => read_part(frame, a, h, next, contexts, scratch),
@@ -110,7 +113,8 @@ impl Payload {
     // What stands behind the MAC header: by its dispatch, a compressed header or a fragment header.
     // The scratch holds what is expanded: 7 where it is shorter than the longest expansion, 455 bytes.
     pub fn read(frame: &[u8], a: Arrival, contexts: &[u8], scratch: &mut [u8]) -> Payload
-        ensures { λ r. ⌜ Brings r (now (scratch .entry)) (now (scratch .exit)) (now (frame .entry)) (payloadIn (now (scratch .entry)) (now (contexts .entry)) a (now (frame .entry))) ⌝ }
+        ensures { λ r. ⌜ Brings r (now (scratch .entry)) (now (scratch .exit)) (now (frame .entry))
+            (payloadIn (now (scratch .entry)) (now (contexts .entry)) a (now (frame .entry))) ⌝ }
     {
         if scratch.len() < 455 {
             return Payload::Refused(Refusal::NoRoom);

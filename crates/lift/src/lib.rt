@@ -20,7 +20,8 @@ ghost use Rattle.reassembly.specs.Table.{takeAt};
 ghost use Rattle.reassembly.specs.declared.table.Table.{Table};
 ghost use Rattle.receiver.specs.Carried.{partIn};
 ghost use Rattle.receiver.specs.Steps.{atOnce};
-ghost use Rattle.lift.specs.Face.{packed, InHalf, addressOf, panFrom, gatewayOf, gatewayAt, begun, tableBegun, received, Answers};
+ghost use Rattle.lift.specs.Face.{packed, InHalf, addressOf, panFrom, gatewayOf, gatewayAt, begun, tableBegun};
+ghost use Rattle.lift.specs.Face.{received, Answers};
 ghost use Rattle.lift.specs.InPlace.{judged, Told, PutAt, TakesIn, ReceivesIn};
 use ieee802154::Address;
 use ieee802154::Pan;
@@ -112,7 +113,8 @@ fn gateway_at(gateways: &[u64], i: usize) -> Gateway
 
 // A table of these gateways, at its beginning, and 0; where the list is refused, 14, and a table without gateways.
 fn begin(gateways: &[u64]) -> Lifted
-    ensures { λ r. ⌜ (r .answer ≡ begun (now (gateways .entry))) × ((t : Table) → choose (eqb (r .answer) 0) (r .table) t ≡ tableBegun t (now (gateways .entry))) ⌝ }
+    ensures { λ r. ⌜ (r .answer ≡ begun (now (gateways .entry)))
+        × ((t : Table) → choose (eqb (r .answer) 0) (r .table) t ≡ tableBegun t (now (gateways .entry))) ⌝ }
 {
     let a = gateway_at(gateways, 0);
     let b = gateway_at(gateways, 1);
@@ -171,7 +173,8 @@ fn answer(c: Carried, out: &mut [u8]) -> u32
 
 // The part that a frame carries, for slot i, whose record is s.
 fn put_at(s: Slot, i: usize, time: u64, c: Carried, mem: &mut [u8], out: &mut [u8]) -> Put
-    ensures { λ r. ⌜ PutAt r i (now (mem .entry)) (now (mem .exit)) (now (out .entry)) (now (out .exit)) (takeAt s i time (partIn c) (now (mem .entry)) (now (out .entry))) ⌝ }
+    ensures { λ r. ⌜ PutAt r i (now (mem .entry)) (now (mem .exit)) (now (out .entry)) (now (out .exit))
+        (takeAt s i time (partIn c) (now (mem .entry)) (now (out .entry))) ⌝ }
 {
     let d = call::put_at(s, i, time, c, mem, out);
     let outcome = d.outcome;
@@ -194,7 +197,8 @@ fn held_by(table: Table, kind: u64, number: u64) -> usize
 // 65,536 times one more than its identifier added to the first. Answers 0, or 14.
 #[no_mangle]
 pub extern "C" fn lift_begin_flat(t: &mut Table, gateways: &[u64]) -> u32
-    ensures { λ r. ⌜ (r ≡ begun (now (gateways .entry))) × (now (t .exit) ≡ tableBegun (now (t .entry)) (now (gateways .entry))) ⌝ }
+    ensures { λ r. ⌜ (r ≡ begun (now (gateways .entry)))
+        × (now (t .exit) ≡ tableBegun (now (t .entry)) (now (gateways .entry))) ⌝ }
 {
     let r = begin(gateways);
     if r.answer == 0 {
@@ -205,7 +209,8 @@ pub extern "C" fn lift_begin_flat(t: &mut Table, gateways: &[u64]) -> u32
 
 // A part that its datagram can have, to a table whose old slots are freed: in its slot, or in one that it opens.
 fn take(t: &mut Table, time: u64, c: Carried, mem: &mut [u8], out: &mut [u8]) -> u32
-    ensures { λ r. ⌜ TakesIn (now (t .entry)) time c r (now (t .exit)) (now (mem .entry)) (now (mem .exit)) (now (out .entry)) (now (out .exit)) ⌝ }
+    ensures { λ r. ⌜ TakesIn (now (t .entry)) time c r (now (t .exit)) (now (mem .entry)) (now (mem .exit))
+        (now (out .entry)) (now (out .exit)) ⌝ }
 {
     let mut i = find(*t, c);
     if i == 8 {
@@ -229,7 +234,8 @@ fn receive_timed(
     mem: &mut [u8],
     out: &mut [u8],
 ) -> u32
-    ensures { λ r. ⌜ ReceivesIn (now (t .entry)) time (now (frame .entry)) (now (contexts .entry)) r (now (t .exit)) (now (mem .entry)) (now (mem .exit)) (now (out .entry)) (now (out .exit)) ⌝ }
+    ensures { λ r. ⌜ ReceivesIn (now (t .entry)) time (now (frame .entry)) (now (contexts .entry)) r (now (t .exit))
+        (now (mem .entry)) (now (mem .exit)) (now (out .entry)) (now (out .exit)) ⌝ }
 {
     let c = Carried::read(t.gateways, frame, contexts);
     if is_taken(c) {
@@ -249,7 +255,9 @@ pub extern "C" fn lift_receive(
     mem: &mut [u8],
     out: &mut [u8],
 ) -> u32
-    ensures { λ r. ⌜ Answers r (now (t .exit)) (now (mem .exit)) (now (out .entry)) (now (out .exit)) (received (now (t .entry)) time (now (frame .entry)) (now (contexts .entry)) (now (mem .entry)) (now (out .entry))) ⌝ }
+    ensures { λ r. ⌜ Answers r (now (t .exit)) (now (mem .exit)) (now (out .entry)) (now (out .exit))
+        (received (now (t .entry)) time (now (frame .entry)) (now (contexts .entry)) (now (mem .entry))
+        (now (out .entry))) ⌝ }
 {
     let w = judge(*t, time, mem.len(), out.len());
     if 1 < w {

@@ -62,7 +62,10 @@ fn pack_counted(c: Counted) -> u32
 // length, or 131,072 and a refusal's number.
 #[no_mangle]
 pub extern "C" fn lift_cut(datagram: &[u8], link: &[u64], k: u16, out: &mut [u8]) -> u32
-    ensures { λ r. ⌜ (r ≡ packedAnswer (answered (cutFrame (linkOf (now (link .entry))) (now (datagram .entry)) k) (now (out .entry)))) × (now (out .exit) ≡ written (cutFrame (linkOf (now (link .entry))) (now (datagram .entry)) k) (now (out .entry))) ⌝ }
+    ensures { λ r. ⌜ (r ≡ packedAnswer (answered (cutFrame (linkOf (now (link .entry))) (now (datagram .entry)) k)
+        (now (out .entry))))
+        × (now (out .exit) ≡ written (cutFrame (linkOf (now (link .entry))) (now (datagram .entry)) k)
+        (now (out .entry))) ⌝ }
 {
     let l = link_of(link);
     let w = frame(datagram, l, k, out);

@@ -8,7 +8,8 @@ ghost use Rattle.octets.specs.Read.{choose};
 ghost use Rattle.octets.specs.Write.{put};
 ghost use Rattle.marks.specs.Marks.{unpack, hasIn};
 ghost use Rattle.reassembly.specs.Lists.{sameList};
-ghost use Rattle.reassembly.specs.Parts.{partOf, units, fitsIn, spans, repeatsIn, takenIn, full, handed, Hands, place, offer, Placeable, Does};
+ghost use Rattle.reassembly.specs.Parts.{partOf, units, fitsIn, spans, repeatsIn, takenIn, full, handed, Hands};
+ghost use Rattle.reassembly.specs.Parts.{place, offer, Placeable, Does};
 use super::slot::Slot;
 use expand::checksum::UdpSum;
 use expand::checksum::is_right;
@@ -162,8 +163,8 @@ fn is_full(s: Slot) -> bool
     !marks::has_mark(covered, false, 0, units_of(k.size as usize))
 }
 
-// The datagram goes to the output's start, its checksum computed where it was elided. One that was carried is tested first: where it does not
-// hold nothing is handed out, 17.
+// The datagram goes to the output's start, its checksum computed where it was elided. One that was carried is tested
+// first: where it does not hold nothing is handed out, 17.
 fn hand_out(room: &[u8], size: usize, sum: UdpSum, out: &mut [u8]) -> Outcome
     requires { ⌜ (size ≤ 2047) × (size ≤ length (now room)) × (size ≤ length (now out)) ⌝ }
     ensures { λ r. ⌜ Hands r (now (out .entry)) (now (out .exit)) (handed sum (take size (now (room .entry)))) ⌝ }
@@ -176,8 +177,8 @@ fn hand_out(room: &[u8], size: usize, sum: UdpSum, out: &mut [u8]) -> Outcome
     Outcome::Refused(Refusal::BadChecksum)
 }
 
-// Takes a part that touches nothing taken: its bytes are written at their place and its units marked. Full cover hands the
-// datagram out and frees the slot.
+// Takes a part that touches nothing taken: its bytes are written at their place and its units marked. Full cover hands
+// the datagram out and frees the slot.
 fn place_part(
     s: Slot,
     room: &mut [u8],
@@ -187,7 +188,8 @@ fn place_part(
     out: &mut [u8],
 ) -> InSlot
     requires { ⌜ Placeable (s .key .size) (offset .0) (now part) (now room) (now out) ⌝ }
-    ensures { λ r. ⌜ Does r (now (room .exit)) (now (out .entry)) (now (out .exit)) (place s (now (room .entry)) (partOf (s .key) (offset .0) sum (now (part .entry)))) ⌝ }
+    ensures { λ r. ⌜ Does r (now (room .exit)) (now (out .entry)) (now (out .exit))
+        (place s (now (room .entry)) (partOf (s .key) (offset .0) sum (now (part .entry)))) ⌝ }
 {
     put_part(room, offset.bytes(), part, 0, part.len());
     let slot = with_part(s, offset, sum, part.len());
@@ -213,7 +215,8 @@ pub(crate) fn offer_part(
     out: &mut [u8],
 ) -> InSlot
     requires { ⌜ Placeable (s .key .size) (offset .0) (now part) (now room) (now out) ⌝ }
-    ensures { λ r. ⌜ Does r (now (room .exit)) (now (out .entry)) (now (out .exit)) (offer s (now (room .entry)) (partOf (s .key) (offset .0) sum (now (part .entry)))) ⌝ }
+    ensures { λ r. ⌜ Does r (now (room .exit)) (now (out .entry)) (now (out .exit))
+        (offer s (now (room .entry)) (partOf (s .key) (offset .0) sum (now (part .entry)))) ⌝ }
 {
     if is_repeat(s, room, offset, part) {
         let slot = s;

@@ -3,7 +3,8 @@ ghost use mathlib.Core.Path.{_≡_};
 ghost use mathlib.Core.Bool.{_&&_};
 ghost use Prim.Native.Nat.{_-_};
 ghost use lib.Dec.{eqb, leb};
-ghost use Rattle.reassembly.specs.Slots.{nodeOf, sameNode, addressed, sourceOf, sameSource, present, sameKey, noKey, freeSlot, opened, isKey, isOf};
+ghost use Rattle.reassembly.specs.Slots.{nodeOf, sameNode, addressed, sourceOf, sameSource, present, sameKey};
+ghost use Rattle.reassembly.specs.Slots.{noKey, freeSlot, opened, isKey, isOf};
 use expand::checksum::UdpSum;
 use ieee802154::Address;
 use ieee802154::PanField;
@@ -31,8 +32,8 @@ pub struct Key {
     pub tag: u16,
 }
 
-// A slot's record: open (live is 1) under a key since a time, a mark of coverage and of a part's start for each of its 256
-// units of 8 bytes, and what is remembered of the UDP checksum.
+// A slot's record: open (live is 1) under a key since a time, a mark of coverage and of a part's start for each of its
+// 256 units of 8 bytes, and what is remembered of the UDP checksum.
 #[repr(C)]
 pub struct Slot {
     pub key: Key,

@@ -10,7 +10,8 @@ ghost use Rattle.octets.specs.declared.refusal.Refusal.{Refusal};
 ghost use Rattle.reassembly.specs.declared.part.Outcome.{Outcome};
 ghost use Rattle.reassembly.specs.declared.table.Listed.{Listed};
 ghost use Rattle.reassembly.specs.Lists.{count, firstAt, those};
-ghost use Rattle.reassembly.specs.Slots.{sameSource, opened, expired, expire, freeSlot, isKey, present, isFree, gatesOf, isGate, held, free, idleOthers, opening};
+ghost use Rattle.reassembly.specs.Slots.{sameSource, opened, expired, expire, freeSlot, isKey, present, isFree};
+ghost use Rattle.reassembly.specs.Slots.{gatesOf, isGate, held, free, idleOthers, opening};
 ghost use Rattle.reassembly.specs.Parts.{partOf, offer, Placeable};
 ghost use Rattle.reassembly.specs.Table.{chunk, withSlots, takeAt, Lands};
 ghost use Rattle.reassembly.specs.Fresh.{seats, fresh, sources, unfit, Begins};
@@ -347,7 +348,8 @@ fn offer_at(
 ) -> InSlot
     requires { ⌜ (i < 8) × (16384 ≤ length (now mem)) ⌝ }
     requires { ⌜ Placeable (s .key .size) (offset .0) (now part) (chunk i (now mem)) (now out) ⌝ }
-    ensures { λ r. ⌜ Lands r i (now (mem .entry)) (now (mem .exit)) (now (out .entry)) (now (out .exit)) (offer s (chunk i (now (mem .entry))) (partOf (s .key) (offset .0) sum (now (part .entry)))) ⌝ }
+    ensures { λ r. ⌜ Lands r i (now (mem .entry)) (now (mem .exit)) (now (out .entry)) (now (out .exit))
+        (offer s (chunk i (now (mem .entry))) (partOf (s .key) (offset .0) sum (now (part .entry)))) ⌝ }
 {
     let from = i * 2048;
     let to = from + 2048;
@@ -368,7 +370,8 @@ pub fn take_at(
     mem: &mut [u8],
     out: &mut [u8],
 ) -> InSlot
-    ensures { λ r. ⌜ Lands r i (now (mem .entry)) (now (mem .exit)) (now (out .entry)) (now (out .exit)) (takeAt s i time (partOf key (offset .0) sum (now (part .entry))) (now (mem .entry)) (now (out .entry))) ⌝ }
+    ensures { λ r. ⌜ Lands r i (now (mem .entry)) (now (mem .exit)) (now (out .entry)) (now (out .exit))
+        (takeAt s i time (partOf key (offset .0) sum (now (part .entry))) (now (mem .entry)) (now (out .entry))) ⌝ }
 {
     if is_short(mem.len(), out.len()) {
         return stays(s, Refusal::NoRoom);

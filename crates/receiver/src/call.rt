@@ -89,14 +89,17 @@ fn take_first(
     out: &mut [u8],
 ) -> InSlot
     requires { ⌜ n ≤ length (now bytes) ⌝ }
-    ensures { λ r. ⌜ Lands r i (now (mem .entry)) (now (mem .exit)) (now (out .entry)) (now (out .exit)) (takeAt s i time (partOf key (offset .0) sum (take n (now (bytes .entry)))) (now (mem .entry)) (now (out .entry))) ⌝ }
+    ensures { λ r. ⌜ Lands r i (now (mem .entry)) (now (mem .exit)) (now (out .entry)) (now (out .exit))
+        (takeAt s i time (partOf key (offset .0) sum (take n (now (bytes .entry)))) (now (mem .entry))
+        (now (out .entry))) ⌝ }
 {
     take_at(s, i, time, key, offset, sum, &bytes[0..n], mem, out)
 }
 
 // The part that a frame carries, for slot i, whose record is s.
 pub fn put_at(s: Slot, i: usize, time: u64, c: Carried, mem: &mut [u8], out: &mut [u8]) -> InSlot
-    ensures { λ r. ⌜ Lands r i (now (mem .entry)) (now (mem .exit)) (now (out .entry)) (now (out .exit)) (takeAt s i time (partIn c) (now (mem .entry)) (now (out .entry))) ⌝ }
+    ensures { λ r. ⌜ Lands r i (now (mem .entry)) (now (mem .exit)) (now (out .entry)) (now (out .exit))
+        (takeAt s i time (partIn c) (now (mem .entry)) (now (out .entry))) ⌝ }
 {
     let n = c.size();
     let key = c.key;

@@ -190,7 +190,10 @@ pub fn receive(
     mem: &mut [u8],
     out: &mut [u8],
 ) -> Received
-    ensures { λ r. ⌜ Gives r (now (mem .exit)) (now (out .entry)) (now (out .exit)) (step (record { table = table; mem = now (mem .entry) }) (callOf (now (mem .entry)) (now (out .entry)) (gatesOf table) (now (contexts .entry)) time (now (frame .entry)))) ⌝ }
+    ensures { λ r. ⌜ Gives r (now (mem .exit)) (now (out .entry)) (now (out .exit))
+        (step (record { table = table; mem = now (mem .entry) })
+        (callOf (now (mem .entry)) (now (out .entry)) (gatesOf table) (now (contexts .entry)) time
+        (now (frame .entry)))) ⌝ }
 {
     match judge(table.last, time, mem.len(), out.len()) {
         Judged::Taken => {
