@@ -20,6 +20,10 @@ use octets::cursor::Cursor;
 use octets::field::WordField;
 use octets::refusal::Refusal;
 
+// The bytes of the longest expansion: eight headers, UDP's and the rest of a frame (`at-most-455`,
+// proofs/Datagrams.antt).
+pub const LONGEST: usize = 455;
+
 // How many bytes the datagram, or its first part, has, and what is to be remembered of its UDP checksum; or why there
 // is none.
 pub enum Expanded {

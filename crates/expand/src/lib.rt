@@ -15,5 +15,6 @@ pub mod datagram;
 mod ip;
 
 pub use datagram::Expanded;
+pub use datagram::LONGEST;
 pub use datagram::expand;
 pub use datagram::measure;

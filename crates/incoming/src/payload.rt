@@ -4,6 +4,7 @@ ghost use lib.ListN.{length};
 ghost use Rattle.incoming.specs.Incoming.{Brings, whole, piece, fragment, payloadIn};
 use super::arrival::Arrival;
 use expand::Expanded;
+use expand::LONGEST;
 use expand::checksum::UdpSum;
 use expand::expand;
 use ieee802154::AddressField;
@@ -116,7 +117,7 @@ impl Payload {
         ensures { λ r. ⌜ Brings r (now (scratch .entry)) (now (scratch .exit)) (now (frame .entry))
             (payloadIn (now (scratch .entry)) (now (contexts .entry)) a (now (frame .entry))) ⌝ }
     {
-        if scratch.len() < 455 {
+        if scratch.len() < LONGEST {
             return Payload::Refused(Refusal::NoRoom);
         }
         match SixlowpanPacket::dispatch_at(frame, Cursor { at: a.at }) {

@@ -41,6 +41,12 @@ use receiver::call::find;
 use receiver::call::is_taken;
 use receiver::call::to_open;
 
+// What is added to an answer's number: to a datagram's length, and to a refusal's number (LIFT_OUT and LIFT_REFUSED of
+// include/lift.h, 65,536 times over).
+pub(crate) const OUT: u32 = 65536;
+
+pub(crate) const REFUSED: u32 = 131072;
+
 // The answer of a call as a number, and the table after it.
 pub struct Lifted {
     pub table: Table,
@@ -142,8 +148,8 @@ fn pack(o: Outcome) -> u32
 {
     match o {
         Outcome::Kept => 0,
-        Outcome::Out(n) => 65536 + (n as u32),
-        Outcome::Refused(e) => 131072 + (e.number() as u32),
+        Outcome::Out(n) => OUT + (n as u32),
+        Outcome::Refused(e) => REFUSED + (e.number() as u32),
     }
 }
 
@@ -159,7 +165,7 @@ fn judge(table: Table, time: u64, mem: usize, out: usize) -> u32
             }
             0
         }
-        Judged::Refused(e) => 131072 + (e.number() as u32),
+        Judged::Refused(e) => REFUSED + (e.number() as u32),
     }
 }
 

@@ -5,6 +5,8 @@ ghost use lib.ListN.{getD};
 ghost use Rattle.octets.specs.Write.{ofWritten};
 ghost use Rattle.cutting.specs.Cut.{cutFrame, cutCount, answered, written, ofCounted};
 ghost use Rattle.lift.specs.Send.{linkOf, packedAnswer, InLow};
+use super::OUT;
+use super::REFUSED;
 use super::address_of;
 use cutting::Counted;
 use cutting::Link;
@@ -43,8 +45,8 @@ fn pack_written(w: Written) -> u32
     ensures { λ r. ⌜ r ≡ packedAnswer (ofWritten w) ⌝ }
 {
     match w {
-        Written::Bytes(n) => 65536 + (n as u32),
-        Written::Refused(e) => 131072 + (e.number() as u32),
+        Written::Bytes(n) => OUT + (n as u32),
+        Written::Refused(e) => REFUSED + (e.number() as u32),
     }
 }
 
@@ -53,8 +55,8 @@ fn pack_counted(c: Counted) -> u32
     ensures { λ r. ⌜ r ≡ packedAnswer (ofCounted c) ⌝ }
 {
     match c {
-        Counted::Frames(n) => 65536 + (n as u32),
-        Counted::Refused(e) => 131072 + (e.number() as u32),
+        Counted::Frames(n) => OUT + (n as u32),
+        Counted::Refused(e) => REFUSED + (e.number() as u32),
     }
 }
 

@@ -18,6 +18,11 @@ use expand::copy::put_part;
 use octets::refusal::Refusal;
 use sixlowpan::frag::Units;
 
+// The bytes of the smallest datagram, an IPv6 header alone, and of the largest that a fragment header can name.
+const SMALLEST: usize = 40;
+
+pub const LARGEST: usize = 2047;
+
 // What a call comes to: the part is kept; a datagram of so many bytes stands at the output's start; or a refusal.
 pub enum Outcome {
     Kept,
@@ -60,10 +65,10 @@ pub fn fits(size: u16, offset: Units, n: usize) -> bool
     ensures { λ r. ⌜ r ≡ fitsIn size (offset .0) n ⌝ }
 {
     let total = size as usize;
-    if total < 40 {
+    if total < SMALLEST {
         return false;
     }
-    if 2047 < total {
+    if LARGEST < total {
         return false;
     }
     if n < 1 {

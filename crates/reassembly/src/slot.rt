@@ -195,13 +195,16 @@ impl Slot {
     }
 }
 
+// A slot is freed this many milliseconds after its opening.
+pub const LIFETIME: u64 = 60000;
+
 // Whether a slot is 60,000 ms or more past its opening.
 pub fn is_expired(live: u64, since: u64, time: u64) -> bool
     ensures { λ r. ⌜ r ≡ (eqb live 1 && leb 60000 (time - since)) ⌝ }
 {
     if live == 1 {
         if since <= time {
-            return 60000 <= time - since;
+            return LIFETIME <= time - since;
         }
     }
     false

@@ -16,6 +16,7 @@ ghost use Rattle.reassembly.specs.Parts.{partOf, offer, Placeable};
 ghost use Rattle.reassembly.specs.Table.{chunk, withSlots, takeAt, Lands};
 ghost use Rattle.reassembly.specs.Fresh.{seats, fresh, sources, unfit, Begins};
 use super::part::InSlot;
+use super::part::LARGEST;
 use super::part::Outcome;
 use super::part::fits;
 use super::part::offer_part;
@@ -28,6 +29,13 @@ use ieee802154::Address;
 use ieee802154::PanField;
 use octets::refusal::Refusal;
 use sixlowpan::frag::Units;
+
+// The slots of a table, the bytes of memory that each has, and of all together.
+pub const SLOTS: usize = 8;
+
+const SLOT_BYTES: usize = 2048;
+
+pub const LENT: usize = 16384;
 
 // A gateway as it is listed: its address, and its PAN or none.
 pub struct Gateway {
@@ -85,7 +93,7 @@ impl Table {
     {
         let mut x = self;
         let mut i: usize = 0;
-        while i < 8 {
+        while i < SLOTS {
             let live = x.slots[i].live;
             let since = x.slots[i].since;
             if is_expired(live, since, time) {
@@ -103,7 +111,7 @@ impl Table {
         ensures { λ r. ⌜ r ≡ leb 1 (count (expired time) (self .slots)) ⌝ }
     {
         let mut i: usize = 0;
-        while i < 8 {
+        while i < SLOTS {
             let live = self.slots[i].live;
             let since = self.slots[i].since;
             if is_expired(live, since, time) {
@@ -119,7 +127,7 @@ impl Table {
         ensures { λ r. ⌜ r ≡ firstAt (isKey key) (self .slots) ⌝ }
     {
         let mut i: usize = 0;
-        while i < 8 {
+        while i < SLOTS {
             let s = self.slots[i];
             if s.has_key(key) {
                 return i;
@@ -217,10 +225,10 @@ fn has_unfit(seats: [Source; 4], size: usize) -> bool
 pub fn is_short(mem: usize, out: usize) -> bool
     ensures { λ r. ⌜ r ≡ (ltb mem 16384 || ltb out 2047) ⌝ }
 {
-    if mem < 16384 {
+    if mem < LENT {
         return true;
     }
-    out < 2047
+    out < LARGEST
 }
 
 // Whether an address is one of the gateways.
@@ -252,7 +260,7 @@ fn lowest_free(t: Table) -> usize
     ensures { λ r. ⌜ r ≡ firstAt isFree (t .slots) ⌝ }
 {
     let mut i: usize = 0;
-    while i < 8 {
+    while i < SLOTS {
         if t.slots[i].live != 1 {
             return i;
         }
@@ -267,7 +275,7 @@ pub fn count_free(t: Table) -> usize
 {
     let mut found: usize = 0;
     let mut i: usize = 0;
-    while i < 8 {
+    while i < SLOTS {
         if t.slots[i].live != 1 {
             found = found + 1;
         }
@@ -282,7 +290,7 @@ pub fn count_held(t: Table, g: Source) -> usize
 {
     let mut n: usize = 0;
     let mut i: usize = 0;
-    while i < 8 {
+    while i < SLOTS {
         let s = t.slots[i];
         if s.is_of(g) {
             n = n + 1;
@@ -351,8 +359,8 @@ fn offer_at(
     ensures { λ r. ⌜ Lands r i (now (mem .entry)) (now (mem .exit)) (now (out .entry)) (now (out .exit))
         (offer s (chunk i (now (mem .entry))) (partOf (s .key) (offset .0) sum (now (part .entry)))) ⌝ }
 {
-    let from = i * 2048;
-    let to = from + 2048;
+    let from = i * SLOT_BYTES;
+    let to = from + SLOT_BYTES;
     offer_part(s, &mut mem[from..to], offset, sum, part, out)
 }
 
@@ -379,7 +387,7 @@ pub fn take_at(
     if !fits(key.size, offset, part.len()) {
         return stays(s, Refusal::BadPart);
     }
-    if 8 <= i {
+    if SLOTS <= i {
         return stays(s, Refusal::NoSlot);
     }
     let z = slot_for(s, key, time);

@@ -43,6 +43,9 @@ pub enum What {
     Refused(Refusal),
 }
 
+// The bytes of the longest expansion, 455, and one more.
+pub const SCRATCH: usize = 456;
+
 // What a frame carries: a whole datagram or a part of one, the first `len` of `bytes`, compressed headers in full; or
 // a refusal. `key`, `offset` and `sum` are a part's.
 pub struct Carried {
@@ -51,7 +54,7 @@ pub struct Carried {
     pub offset: Units,
     pub sum: UdpSum,
     pub len: usize,
-    pub bytes: [u8; 456],
+    pub bytes: [u8; SCRATCH],
 }
 
 fn sender_of(a: Arrival) -> Source
@@ -97,7 +100,7 @@ fn key_of(a: Arrival, size: u16, tag: u16) -> Key
 }
 
 impl Carried {
-    fn refused(e: Refusal, bytes: [u8; 456]) -> Carried
+    fn refused(e: Refusal, bytes: [u8; SCRATCH]) -> Carried
         ensures { λ r. ⌜ r ≡ nothing e bytes ⌝ }
     {
         let key = Key::none();
@@ -111,7 +114,7 @@ impl Carried {
         }
     }
 
-    fn whole(len: usize, bytes: [u8; 456]) -> Carried
+    fn whole(len: usize, bytes: [u8; SCRATCH]) -> Carried
         ensures { λ r. ⌜ r ≡ whole len bytes ⌝ }
     {
         let key = Key::none();
@@ -125,7 +128,7 @@ impl Carried {
         }
     }
 
-    fn part(key: Key, offset: Units, sum: UdpSum, len: usize, bytes: [u8; 456]) -> Carried
+    fn part(key: Key, offset: Units, sum: UdpSum, len: usize, bytes: [u8; SCRATCH]) -> Carried
         ensures { λ r. ⌜ r ≡ part key offset sum len bytes ⌝ }
     {
         Carried {
@@ -142,14 +145,14 @@ impl Carried {
     pub fn read(gateways: [Source; 4], frame: &[u8], contexts: &[u8]) -> Carried
         ensures { λ r. ⌜ Carries r (those present gateways) (now (contexts .entry)) (now (frame .entry)) ⌝ }
     {
-        let mut bytes = [0u8; 456];
+        let mut bytes = [0u8; SCRATCH];
         match admit(gateways, frame) {
             ArrivalAnswer::Is(a) => match Payload::read(frame, a, contexts, &mut bytes) {
                 Payload::Whole { len, sum } => {
                     if is_right(&bytes, len, sum) {
                         return Carried::whole(len, bytes);
                     }
-                    Carried::refused(Refusal::BadChecksum, [0u8; 456])
+                    Carried::refused(Refusal::BadChecksum, [0u8; SCRATCH])
                 }
                 Payload::First {
                     size,
@@ -177,7 +180,11 @@ impl Carried {
     pub fn size(self) -> usize
         ensures { λ r. ⌜ (r ≡ min (self .len) 456) × (r ≤ 456) ⌝ }
     {
-        if self.len < 456 { self.len } else { 456 }
+        if self.len < SCRATCH {
+            self.len
+        } else {
+            SCRATCH
+        }
     }
 }
 
