@@ -68,7 +68,8 @@ fn bad(session: Session, out: &mut [u8], to: usize) -> Done {
     }
 }
 
-// `gateways GATEWAY GATEWAY ..`: the table is made. Past the fourth only how many there are counts, so any seat does for them.
+// `gateways GATEWAY GATEWAY ..`: the table is made. Past the fourth only how many there are counts, so any seat does
+// for them.
 fn gateways(line: &[u8], from: usize, session: Session, out: &mut [u8], to: usize) -> Done {
     let none = NO_GATEWAY;
     let mut all = [none; 4];

@@ -1,8 +1,9 @@
-// Answers calls on the slot table: one line on standard input, one answer a line on standard output (tests/README.md has the
-// protocol). A line that starts with `#` is answered by itself, one that is no call by `bad`, one that does not fit the input by
-// `bad long`.
+// Answers calls on the slot table: one line on standard input, one answer a line on standard output (tests/README.md
+// has the protocol). A line that starts with `#` is answered by itself, one that is no call by `bad`, one that does not
+// fit the input by `bad long`.
 //
-// - `commands`: what the lines `gateways` and `call` do. `fields`: addresses in a line. `answer`: the parts of an answer.
+// - `commands`: what the lines `gateways` and `call` do. `fields`: addresses in a line. `answer`: the parts of an
+//   answer.
 mod answer;
 mod commands;
 mod fields;
@@ -15,8 +16,8 @@ use text::print;
 // What an answer takes at most beyond the line itself: 2,047 bytes in hexadecimal, eight keys and a few words.
 const LONGEST: usize = 8192;
 
-// The input that is read and not answered yet stands from `start` to `have`; no line ends before `from`. The beginning of a line
-// that was too long is gone and answered: the rest of it is to be skipped.
+// The input that is read and not answered yet stands from `start` to `have`; no line ends before `from`. The beginning
+// of a line that was too long is gone and answered: the rest of it is to be skipped.
 struct Unread {
     start: usize,
     from: usize,
@@ -97,8 +98,8 @@ fn too_long(u: Unread, session: Session) -> Progress {
     stopped(session)
 }
 
-// Reads more behind the first `n` bytes of the input, which hold no end of a line. Where nothing comes any more, the last line gets
-// the end that it lacks.
+// Reads more behind the first `n` bytes of the input, which hold no end of a line. Where nothing comes any more, the
+// last line gets the end that it lacks.
 fn read_on(input: &mut [u8], n: usize, skip: bool, session: Session) -> Progress {
     if input.len() <= n {
         return stopped(session);

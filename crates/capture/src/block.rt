@@ -1,10 +1,12 @@
-// Capture blocks (the scope document, "Capture blocks and the program"). In a block the number stands at 0, the count at 4; place k
-// begins at 6 + 132 * k, its length byte 4 further and its frame 5 further; the places end at 402, and the check stands at 510.
+// Capture blocks (the scope document, "Capture blocks and the program"). In a block the number stands at 0, the count
+// at 4; place k begins at 6 + 132 * k, its length byte 4 further and its frame 5 further; the places end at 402, and
+// the check stands at 510.
 ghost use mathlib.Core.Path.{_≡_};
 ghost use Prim.Native.Nat.{_<_, _≤_, min};
 ghost use lib.ListN.{length};
 ghost use Rattle.octets.specs.Read.{le16, le32};
-ghost use Rattle.capture.specs.Block.{field, countOf, lengthAt, timeOf, frameOf, zeroIn, goodPlace, goodHead, goodPlaces, goodEnd, goodBlock, judged, ofJudged};
+ghost use Rattle.capture.specs.Block.{field, countOf, lengthAt, timeOf, frameOf, zeroIn, goodPlace, goodHead};
+ghost use Rattle.capture.specs.Block.{goodPlaces, goodEnd, goodBlock, judged, ofJudged};
 use super::fcs::fcs;
 use octets::cursor::Cursor;
 use octets::cursor::WideRead;
@@ -160,8 +162,8 @@ fn good_block(block: &[u8], number: u64) -> bool
     false
 }
 
-// Whether the bytes are the good block of this number, the block's place in its file from 0. Numbers do not wrap: no block is
-// good at a place of 2^32 or more.
+// Whether the bytes are the good block of this number, the block's place in its file from 0. Numbers do not wrap: no
+// block is good at a place of 2^32 or more.
 pub fn judge(block: &[u8], number: u64) -> Judged
     ensures { λ r. ⌜ ofJudged r ≡ judged number (now (block .entry)) ⌝ }
 {

@@ -1,5 +1,5 @@
-// What each byte leaves in an empty register once its eight bits have gone in. proofs/fcs/fcs/Proof.antt tests every entry
-// against the definition of the check.
+// What each byte leaves in an empty register once its eight bits have gone in. proofs/fcs/fcs/Proof.antt tests every
+// entry against the definition of the check.
 pub const TABLE: [u16; 256] = [
     0x0000,
     0x1189,

@@ -1,7 +1,7 @@
 // The named constants of the header crates, held to the numbers that the documents give them.
 //
-// A contract speaks of functions: a constant that none of them uses could be wrong, and every crate would still be proved. Here
-// each one is the answer of a function whose contract has the number, so that a wrong one is refused.
+// A contract speaks of functions: a constant that none of them uses could be wrong, and every crate would still be
+// proved. Here each one is the answer of a function whose contract has the number, so that a wrong one is refused.
 ghost use mathlib.Core.Path.{_≡_};
 ghost use mathlib.Core.List.{[], _∷_};
 ghost use Rattle.ieee802154.specs.declared.addr.Address.the-variants.{Short};
@@ -83,8 +83,8 @@ pub fn protocols() -> [u8; 6]
     ]
 }
 
-// RFC 4944, 5.3: the headers of a first and a later part, and the unit of an offset; RFC 6282: a context's prefix; a place at the
-// start; the scope document: a capture's block.
+// RFC 4944, 5.3: the headers of a first and a later part, and the unit of an offset; RFC 6282: a context's prefix; a
+// place at the start; the scope document: a capture's block.
 pub fn sizes() -> [usize; 6]
     ensures { λ r. ⌜ r ≡ 4 ∷ 5 ∷ 8 ∷ 8 ∷ 0 ∷ 512 ∷ [] ⌝ }
 {

@@ -1,8 +1,9 @@
 // Address contexts lent as a slice of `AddressContext`, indexed by identifier.
 //
-// `receive` is the public call with such a slice, and `read_header` reads a compressed IPv6 header with one. Their contracts are
-// those of `receiver::receive` and `iphc::Repr::read` on the flat bytes that the slice means (`listed` of specs/Slice.antt: 8
-// each, in order). Underneath, `with_context` picks one struct from the slice and calls the covered function on flat values.
+// `receive` is the public call with such a slice, and `read_header` reads a compressed IPv6 header with one. Their
+// contracts are those of `receiver::receive` and `iphc::Repr::read` on the flat bytes that the slice means (`listed` of
+// specs/Slice.antt: 8 each, in order). Underneath, `with_context` picks one struct from the slice and calls the covered
+// function on flat values.
 ghost use mathlib.Core.Path.{_≡_};
 ghost use Prim.Native.Nat.{_≤_, min};
 ghost use lib.ListN.{replicate};
@@ -108,7 +109,9 @@ fn receive_flat(
     mem: &mut [u8],
     out: &mut [u8],
 ) -> Received
-    ensures { λ r. ⌜ Gives r (now (mem .exit)) (now (out .entry)) (now (out .exit)) (step (record { table = table; mem = now (mem .entry) }) (callOf (now (mem .entry)) (now (out .entry)) (gatesOf table) (bytesOf f) time (now (frame .entry)))) ⌝ }
+    ensures { λ r. ⌜ Gives r (now (mem .exit)) (now (out .entry)) (now (out .exit))
+        (step (record { table = table; mem = now (mem .entry) })
+        (callOf (now (mem .entry)) (now (out .entry)) (gatesOf table) (bytesOf f) time (now (frame .entry)))) ⌝ }
 {
     let bytes = f.bytes;
     let n = at_most_128(f.len);
@@ -124,7 +127,10 @@ pub fn receive(
     mem: &mut [u8],
     out: &mut [u8],
 ) -> Received
-    ensures { λ r. ⌜ Gives r (now (mem .exit)) (now (out .entry)) (now (out .exit)) (step (record { table = table; mem = now (mem .entry) }) (callOf (now (mem .entry)) (now (out .entry)) (gatesOf table) (listed (now (contexts .entry))) time (now (frame .entry)))) ⌝ }
+    ensures { λ r. ⌜ Gives r (now (mem .exit)) (now (out .entry)) (now (out .exit))
+        (step (record { table = table; mem = now (mem .entry) })
+        (callOf (now (mem .entry)) (now (out .entry)) (gatesOf table) (listed (now (contexts .entry))) time
+        (now (frame .entry)))) ⌝ }
 {
     let f = flatten(contexts);
     receive_flat(table, time, frame, f, mem, out)

@@ -5,8 +5,8 @@ ghost use lib.ListN.{length};
 ghost use Rattle.cutting.specs.Pieces.{ofPiece, pieceFrom, laterPieces, pieces, nth, Sane};
 use octets::refusal::Refusal;
 
-// The lengths that decide it: of the MAC header, of the compressed headers, of what they stand for, of the datagram, and of the
-// longest frame.
+// The lengths that decide it: of the MAC header, of the compressed headers, of what they stand for, of the datagram,
+// and of the longest frame.
 pub struct Plan {
     pub mac: usize,
     pub head: usize,

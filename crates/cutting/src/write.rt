@@ -140,7 +140,9 @@ fn put_middle(buf: &mut [u8], at: usize, d: &[u8], h: Head, l: Link, p: Piece)
 // Writes the frame of a piece.
 fn write_piece(d: &[u8], l: Link, h: Head, plan: Plan, p: Piece, out: &mut [u8]) -> Written
     requires { ⌜ (length (now d) ≤ 2047) × (h ≡ headOf l (now d)) × (plan ≡ planOf l (now d)) ⌝ }
-    ensures { λ r. ⌜ (ofWritten r ≡ wrote (length (frameOf l (now (d .entry)) p)) (now (out .entry))) × (now (out .exit) ≡ over (length (frameOf l (now (d .entry)) p)) (frameOf l (now (d .entry)) p) (now (out .entry))) ⌝ }
+    ensures { λ r. ⌜ (ofWritten r ≡ wrote (length (frameOf l (now (d .entry)) p)) (now (out .entry)))
+        × (now (out .exit)
+        ≡ over (length (frameOf l (now (d .entry)) p)) (frameOf l (now (d .entry)) p) (now (out .entry))) ⌝ }
 {
     let middle = middle_len(plan.head, p);
     let from = part_at(plan.covers, p);
@@ -158,7 +160,8 @@ fn write_piece(d: &[u8], l: Link, h: Head, plan: Plan, p: Piece, out: &mut [u8])
 // Refusals 6, 16, 10 and 7.
 fn write_frame(d: &[u8], l: Link, k: u16, out: &mut [u8]) -> Written
     requires { ⌜ (40 ≤ length (now d)) × (length (now d) ≤ 2047) × (80 ≤ l .limit) × (l .limit ≤ 127) ⌝ }
-    ensures { λ r. ⌜ (ofWritten r ≡ answered (cutFrame l (now (d .entry)) k) (now (out .entry))) × (now (out .exit) ≡ written (cutFrame l (now (d .entry)) k) (now (out .entry))) ⌝ }
+    ensures { λ r. ⌜ (ofWritten r ≡ answered (cutFrame l (now (d .entry)) k) (now (out .entry)))
+        × (now (out .exit) ≡ written (cutFrame l (now (d .entry)) k) (now (out .entry))) ⌝ }
 {
     if has_both(l) {
         if is_ours(d) {
@@ -178,7 +181,8 @@ fn write_frame(d: &[u8], l: Link, k: u16, out: &mut [u8]) -> Written
 
 // Writes frame k, from 0, of the cutting of the datagram into the front of the room.
 pub fn frame(datagram: &[u8], link: Link, k: u16, out: &mut [u8]) -> Written
-    ensures { λ r. ⌜ (ofWritten r ≡ answered (cutFrame link (now (datagram .entry)) k) (now (out .entry))) × (now (out .exit) ≡ written (cutFrame link (now (datagram .entry)) k) (now (out .entry))) ⌝ }
+    ensures { λ r. ⌜ (ofWritten r ≡ answered (cutFrame link (now (datagram .entry)) k) (now (out .entry)))
+        × (now (out .exit) ≡ written (cutFrame link (now (datagram .entry)) k) (now (out .entry))) ⌝ }
 {
     if in_range(datagram, link) {
         write_frame(datagram, link, k, out)

@@ -1,8 +1,9 @@
 // Where a program that moves a file reads and writes: standard input and output, or two files by name.
 //
-// - `open` reads the arguments. None: standard input and output. Two: the first is read, and what is written goes to a new file
-//   beside the second, named as that with `.part` behind it. Anything else is answered by a usage line.
-// - `close` ends it. A file that is whole takes the second name; one that is not is removed, so that no half file is left.
+// - `open` reads the arguments. None: standard input and output. Two: the first is read, and what is written goes to a
+//   new file beside the second, named as that with `.part` behind it. Anything else is answered by a usage line.
+// - `close` ends it. A file that is whole takes the second name; one that is not is removed, so that no half file is
+//   left.
 ghost use mathlib.Core.Path.{_≡_};
 ghost use lib.ListN.{length};
 ghost use Rattle.libc.specs.Io.{Status};
@@ -38,8 +39,8 @@ fn standard() -> Ends {
     }
 }
 
-// Opens the file to read, and makes the one to write: `part` is its name, and `name` is how many bytes of it the second argument
-// has.
+// Opens the file to read, and makes the one to write: `part` is its name, and `name` is how many bytes of it the second
+// argument has.
 fn open_both(from: &[u8], part: &[u8], name: usize) -> Ends {
     let input = os::open_read(from);
     if input < 0 {

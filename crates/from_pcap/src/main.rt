@@ -1,8 +1,9 @@
-// Moves pcap to a capture of blocks: standard input to standard output, or with two arguments a file to a file (the change
-// request "Captures in pcap").
+// Moves pcap to a capture of blocks: standard input to standard output, or with two arguments a file to a file (the
+// change request "Captures in pcap").
 //
-// What the next frames come to is the library's (`pcap::coming::one_block`); here pcap is read, up to 64 KiB at a time, and the blocks
-// are written. Until the input has ended a block is made only of 429 bytes or more, which hold three frames.
+// What the next frames come to is the library's (`pcap::coming::one_block`); here pcap is read, up to 64 KiB at a time,
+// and the blocks are written. Until the input has ended a block is made only of 429 bytes or more, which hold three
+// frames.
 use octets::cursor::Cursor;
 use octets::cursor::Skipped;
 use octets::write::Written;
@@ -20,8 +21,8 @@ const HEAD: usize = 24;
 
 const THREE: usize = 429;
 
-// What is due, the place of the next frame in the input, the place behind the blocks that were put, whether to go on, and whether
-// all went well.
+// What is due, the place of the next frame in the input, the place behind the blocks that were put, whether to go on,
+// and whether all went well.
 struct Moved {
     due: FromPcap,
     at: usize,
@@ -30,8 +31,8 @@ struct Moved {
     well: bool,
 }
 
-// What is kept from one read to the next: what is due, how many bytes stand at the input's start, whether the header was read,
-// whether to go on, and whether all was moved.
+// What is kept from one read to the next: what is due, how many bytes stand at the input's start, whether the header
+// was read, whether to go on, and whether all was moved.
 struct Kept {
     due: FromPcap,
     have: usize,

@@ -1,9 +1,9 @@
-// Reads a capture on standard input, or from the file that its one argument names, and prints a line for each frame (the scope
-// document, "Capture blocks and the program"). What the system does not let it read or write it says in a line on standard error:
-// that is not the end of a capture, so the lines so far stand and no `end` follows.
+// Reads a capture on standard input, or from the file that its one argument names, and prints a line for each frame
+// (the scope document, "Capture blocks and the program"). What the system does not let it read or write it says in a
+// line on standard error: that is not the end of a capture, so the lines so far stand and no `end` follows.
 //
-// What the blocks say is the library's (`listen::hear_all`); here they are read, up to 128 at a time, and their lines written.
-// No line is longer than 46 bytes, so that the text has room for all lines of one read.
+// What the blocks say is the library's (`listen::hear_all`); here they are read, up to 128 at a time, and their lines
+// written. No line is longer than 46 bytes, so that the text has room for all lines of one read.
 use listen::Ear;
 use listen::Heard;
 use listen::hear_all;
@@ -12,8 +12,8 @@ use text::line;
 
 const BLOCK: usize = 512;
 
-// What is kept from one read to the next: who listens, how many bytes of an unfinished block stand at the input's start, and
-// whether to go on.
+// What is kept from one read to the next: who listens, how many bytes of an unfinished block stand at the input's
+// start, and whether to go on.
 struct Kept {
     ear: Ear,
     have: usize,
@@ -173,7 +173,8 @@ fn named(path: &mut [u8]) -> i32 {
     fd
 }
 
-// What to read: standard input, or the file that the one argument names; below 0 where there is none, and that has been said.
+// What to read: standard input, or the file that the one argument names; below 0 where there is none, and that has been
+// said.
 fn source() -> i32 {
     let words = os::arg_count();
     if words < 2 {

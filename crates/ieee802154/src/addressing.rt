@@ -1,6 +1,7 @@
 // The addressing fields: each side's PAN identifier and address.
 ghost use mathlib.Core.Path.{_≡_};
-ghost use Rattle.ieee802154.specs.Addressing.{ofPan, ofField, ofSide, ofAddressing, panField, addressField, side, sides, addressing};
+ghost use Rattle.ieee802154.specs.Addressing.{ofPan, ofField, ofSide, ofAddressing, panField, addressField, side};
+ghost use Rattle.ieee802154.specs.Addressing.{sides, addressing};
 use super::addr::Address;
 use super::addr::AddressField;
 use super::addr::Pan;

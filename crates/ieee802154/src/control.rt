@@ -3,7 +3,9 @@ ghost use mathlib.Core.Path.{_≡_};
 ghost use Prim.Native.Nat.{_≤_};
 ghost use lib.Dec.{eqb};
 ghost use lib.ListN.{getD};
-ghost use Rattle.ieee802154.specs.Control.{controlOf, wordOf, bitOf, supported, saysElements, hasElements, hasSequence, mayOmit, omitsSequence, hasAddressing, carried01, carried2, carried};
+ghost use Rattle.ieee802154.specs.Control.{controlOf, wordOf, bitOf, supported, saysElements, hasElements};
+ghost use Rattle.ieee802154.specs.Control.{hasSequence, mayOmit, omitsSequence, hasAddressing, carried01};
+ghost use Rattle.ieee802154.specs.Control.{carried2, carried};
 
 // The frame type: every number of its three bits, named or not.
 pub struct FrameType(pub u8);
@@ -105,7 +107,9 @@ pub struct Carried {
 }
 
 impl Control {
-    // The field's bits, the lowest first.
+    // The field's bits, the lowest first: 3 of the type, then one each for security (8), frame pending (16), a request
+    // of an acknowledgement (32), PAN compression (64) and a suppressed sequence number (256), and 2 each of the
+    // destination's mode (from 1024), the version (from 4096) and the source's mode (from 16384).
     pub fn of(fc: u16) -> Control
         ensures { λ r. ⌜ r ≡ controlOf fc ⌝ }
     {

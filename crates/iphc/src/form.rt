@@ -1,7 +1,8 @@
 // How an address of a compressed header is written: the bits of its mode, and the bytes that are carried inline.
 ghost use mathlib.Core.Path.{_≡_};
 ghost use Rattle.octets.specs.Write.{put};
-ghost use Rattle.iphc.specs.Emit.{inlineLength, inlineBytes, isShort, isExtended, iidForm, srcForm, isGroup8, isScoped};
+ghost use Rattle.iphc.specs.Emit.{inlineLength, inlineBytes, isShort, isExtended, iidForm, srcForm, isGroup8};
+ghost use Rattle.iphc.specs.Emit.{isScoped};
 ghost use Rattle.iphc.specs.Emit.{multicastForm, dstForm};
 use ieee802154::addr::Address;
 use ieee802154::addr::AddressField;

@@ -28,8 +28,8 @@ use octets::refusal::Refusal;
 use octets::write::Written;
 use sixlowpan::protocol::NextHeader;
 
-// The fields of a header. The link-layer addresses decide how much of each IPv6 address is elided, so they are among them:
-// `read` restores elided bits from them and `emit` elides against them.
+// The fields of a header. The link-layer addresses decide how much of each IPv6 address is elided, so they are among
+// them: `read` restores elided bits from them and `emit` elides against them.
 pub struct Repr {
     pub src_addr: Ipv6Addr,
     pub ll_src_addr: AddressField,
@@ -81,7 +81,8 @@ impl Repr {
         ll_dst_addr: AddressField,
         contexts: &[u8],
     ) -> Parsed
-        ensures { λ r. ⌜ ofParsed r ≡ iphc (now (contexts .entry)) «ll_src_addr» «ll_dst_addr» (now (buf .entry)) (c .at) ⌝ }
+        ensures { λ r. ⌜ ofParsed r
+            ≡ iphc (now (contexts .entry)) «ll_src_addr» «ll_dst_addr» (now (buf .entry)) (c .at) ⌝ }
     {
         match read_base(buf, c) {
             WordRead::Field(v, d) => Repr::behind(
@@ -117,7 +118,8 @@ impl Repr {
         ll_dst_addr: AddressField,
         contexts: &[u8],
     ) -> Parsed
-        ensures { λ r. ⌜ ofParsed r ≡ behind (now (contexts .entry)) «ll_src_addr» «ll_dst_addr» b (now (buf .entry)) (c .at) ⌝ }
+        ensures { λ r. ⌜ ofParsed r
+            ≡ behind (now (contexts .entry)) «ll_src_addr» «ll_dst_addr» b (now (buf .entry)) (c .at) ⌝ }
     {
         match read_front(buf, c, b) {
             FrontRead::Field(f, d) => {
@@ -150,7 +152,8 @@ impl Repr {
 
     // Writes the header into the front of the room. Traffic class and flow label are always elided.
     pub fn emit(self, buf: &mut [u8]) -> Written
-        ensures { λ r. ⌜ (ofWritten r ≡ wrote (lengthOf self) (now (buf .entry))) × (now (buf .exit) ≡ over (lengthOf self) (bytesOf self) (now (buf .entry))) ⌝ }
+        ensures { λ r. ⌜ (ofWritten r ≡ wrote (lengthOf self) (now (buf .entry)))
+            × (now (buf .exit) ≡ over (lengthOf self) (bytesOf self) (now (buf .entry))) ⌝ }
     {
         let src_addr = self.src_addr;
         let ll_src_addr = self.ll_src_addr;

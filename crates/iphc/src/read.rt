@@ -2,7 +2,8 @@
 ghost use mathlib.Core.Path.{_≡_};
 ghost use Rattle.octets.specs.Answers.{ofWord, ofByte, ofLong};
 ghost use Rattle.iphc.specs.Context.{ofPrefix};
-ghost use Rattle.iphc.specs.Iphc.{baseOf, base, contexts, labelled, classAndLabel, ecnAndLabel, classOnly, traffic};
+ghost use Rattle.iphc.specs.Iphc.{baseOf, base, contexts, labelled, classAndLabel, ecnAndLabel, classOnly};
+ghost use Rattle.iphc.specs.Iphc.{traffic};
 ghost use Rattle.iphc.specs.Iphc.{hopLimit, frontRest, front, linkIid, identifier, prefixOf, full, elided};
 ghost use Rattle.iphc.specs.Iphc.{source, group48, group32, group8, multicast, destination, addresses};
 ghost use Rattle.iphc.specs.Answers.{ofContexts, ofTraffic, ofFront, ofIid, ofAddr, ofAddresses};
@@ -460,7 +461,8 @@ fn read_destination(
     id: u8,
     ll: AddressField,
 ) -> AddrRead
-    ensures { λ r. ⌜ ofAddr r ≡ destination (now (contexts .entry)) (b .m) (b .dac) (b .dam) id ll (now (buf .entry)) (c .at) ⌝ }
+    ensures { λ r. ⌜ ofAddr r
+        ≡ destination (now (contexts .entry)) (b .m) (b .dac) (b .dam) id ll (now (buf .entry)) (c .at) ⌝ }
 {
     let dam = b.dam;
     if b.m == 0 {
@@ -487,7 +489,8 @@ pub fn read_addresses(
     ll_src: AddressField,
     ll_dst: AddressField,
 ) -> AddressesRead
-    ensures { λ r. ⌜ ofAddresses r ≡ addresses (now (contexts .entry)) b ids «ll_src» «ll_dst» (now (buf .entry)) (c .at) ⌝ }
+    ensures { λ r. ⌜ ofAddresses r
+        ≡ addresses (now (contexts .entry)) b ids «ll_src» «ll_dst» (now (buf .entry)) (c .at) ⌝ }
 {
     match read_source(buf, c, contexts, b.sac, b.sam, ids.src, ll_src) {
         AddrRead::Field(src, d) => match read_destination(buf, d, contexts, b, ids.dst, ll_dst) {

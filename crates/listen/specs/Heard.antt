@@ -63,6 +63,10 @@ pub record Told : Type 0 where
   pub said : List (List ℕ)
   pub more : Bool
 
+-- the frames of a block, without the count of blocks
+abbrev pub hearFrames : Listener → List ℕ → Told
+hearFrames x s = record { after = afterFrames x (framesOf s); said = saidOfAll x (framesOf s); more = true }
+
 abbrev pub blockOn : Listener → Listener
 blockOn x = record { ear = record { table = x .ear .table; frames = x .ear .frames; block = next (x .ear .block) }; mem = x .mem; out = x .out }
 

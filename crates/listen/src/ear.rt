@@ -2,9 +2,8 @@
 ghost use mathlib.Core.Path.{_≡_};
 ghost use Prim.Native.Nat.{_-_};
 ghost use lib.ListN.{take, drop};
-ghost use Rattle.capture.specs.Block.{countOf, framesOf};
-ghost use mathlib.Core.Bool.{true};
-ghost use Rattle.listen.specs.Heard.{listedAs, starting, afterFrames, saidOfAll, hearBlock, hearAll, Hears};
+ghost use Rattle.capture.specs.Block.{countOf};
+ghost use Rattle.listen.specs.Heard.{listedAs, starting, hearFrames, hearBlock, hearAll, Hears};
 use super::line::put_bad;
 use super::line::put_frame;
 use capture::block::BLOCK;
@@ -74,7 +73,8 @@ fn hear_frames(
     at: usize,
 ) -> Heard
     requires { ⌜ n ≡ countOf (now block) ⌝ }
-    ensures { λ r. ⌜ Hears r (now (mem .exit)) (now (out .exit)) (now (text .entry)) (now (text .exit)) at (record { after = afterFrames (record { ear = ear; mem = now (mem .entry); out = now (out .entry) }) (framesOf (now (block .entry))); said = saidOfAll (record { ear = ear; mem = now (mem .entry); out = now (out .entry) }) (framesOf (now (block .entry))); more = true }) ⌝ }
+    ensures { λ r. ⌜ Hears r (now (mem .exit)) (now (out .exit)) (now (text .entry)) (now (text .exit)) at
+        (hearFrames (record { ear = ear; mem = now (mem .entry); out = now (out .entry) }) (now (block .entry))) ⌝ }
 {
     let mut e = ear;
     let mut to = at;
@@ -103,9 +103,9 @@ fn hear_frames(
     }
 }
 
-// A block of 512 bytes, or the rest of a capture. Where it is the good block that is due, its frames are received in their order and
-// at their times, with the lent memory and output, and a line for each goes to `text` from `at` on; where it is not, one line says
-// so, and reading stops. A line that does not fit is left out.
+// A block of 512 bytes, or the rest of a capture. Where it is the good block that is due, its frames are received in
+// their order and at their times, with the lent memory and output, and a line for each goes to `text` from `at` on;
+// where it is not, one line says so, and reading stops. A line that does not fit is left out.
 pub fn hear(
     ear: Ear,
     block: &[u8],
@@ -114,7 +114,8 @@ pub fn hear(
     text: &mut [u8],
     at: usize,
 ) -> Heard
-    ensures { λ r. ⌜ Hears r (now (mem .exit)) (now (out .exit)) (now (text .entry)) (now (text .exit)) at (hearBlock (record { ear = ear; mem = now (mem .entry); out = now (out .entry) }) (now (block .entry))) ⌝ }
+    ensures { λ r. ⌜ Hears r (now (mem .exit)) (now (out .exit)) (now (text .entry)) (now (text .exit)) at
+        (hearBlock (record { ear = ear; mem = now (mem .entry); out = now (out .entry) }) (now (block .entry))) ⌝ }
 {
     match judge(block, ear.block) {
         Judged::Good(n) => {
@@ -161,8 +162,8 @@ fn behind(left: usize) -> usize
     left - BLOCK
 }
 
-// A capture, or a part of one that begins where a block does: block after block, up to the first bad one. What is left over behind
-// the whole blocks is a bad block.
+// A capture, or a part of one that begins where a block does: block after block, up to the first bad one. What is left
+// over behind the whole blocks is a bad block.
 pub fn hear_all(
     ear: Ear,
     capture: &[u8],
@@ -171,7 +172,8 @@ pub fn hear_all(
     text: &mut [u8],
     at: usize,
 ) -> Heard
-    ensures { λ r. ⌜ Hears r (now (mem .exit)) (now (out .exit)) (now (text .entry)) (now (text .exit)) at (hearAll (record { ear = ear; mem = now (mem .entry); out = now (out .entry) }) (now (capture .entry))) ⌝ }
+    ensures { λ r. ⌜ Hears r (now (mem .exit)) (now (out .exit)) (now (text .entry)) (now (text .exit)) at
+        (hearAll (record { ear = ear; mem = now (mem .entry); out = now (out .entry) }) (now (capture .entry))) ⌝ }
 {
     let mut h = Heard {
         ear,

@@ -1,5 +1,5 @@
-// The lines that tell what was heard. Each is composed in a room of its own, which holds the longest one, and then put into the lent
-// room whole, or not at all.
+// The lines that tell what was heard. Each is composed in a room of its own, which holds the longest one, and then put
+// into the lent room whole, or not at all.
 ghost use mathlib.Core.Path.{_≡_};
 ghost use mathlib.Core.List.{_++_};
 ghost use Prim.Native.Nat.{_≤_};
@@ -13,7 +13,8 @@ use text::print;
 // A number between two words.
 fn put_one(text: &mut [u8], at: usize, front: &[u8], n: u64, back: &[u8]) -> usize
     requires { ⌜ (length (now front) ≤ 8) × (length (now back) ≤ 8) ⌝ }
-    ensures { λ r. ⌜ Printed at (now (front .entry) ++ (decimal n ++ now (back .entry))) (now (text .entry)) (now (text .exit)) r ⌝ }
+    ensures { λ r. ⌜ Printed at (now (front .entry) ++ (decimal n ++ now (back .entry)))
+        (now (text .entry)) (now (text .exit)) r ⌝ }
 {
     let mut line = [0u8; 64];
     let a = print::text(&mut line, 0, front);
@@ -25,7 +26,8 @@ fn put_one(text: &mut [u8], at: usize, front: &[u8], n: u64, back: &[u8]) -> usi
 // Two numbers with a word between them, and the line's end.
 fn put_two(text: &mut [u8], at: usize, n: u64, word: &[u8], x: u64) -> usize
     requires { ⌜ length (now word) ≤ 8 ⌝ }
-    ensures { λ r. ⌜ Printed at (decimal n ++ (now (word .entry) ++ (decimal x ++ newline))) (now (text .entry)) (now (text .exit)) r ⌝ }
+    ensures { λ r. ⌜ Printed at (decimal n ++ (now (word .entry) ++ (decimal x ++ newline)))
+        (now (text .entry)) (now (text .exit)) r ⌝ }
 {
     let mut line = [0u8; 64];
     let a = print::decimal(&mut line, 0, n);

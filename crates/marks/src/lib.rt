@@ -1,16 +1,16 @@
 // A mark for each of 256 units, one bit a unit, in four words: unit u is bit u % 64 of word u / 64.
 //
-// `marked`, `mark` and `has_mark` are, on every input, what specs/Marks.antt says of the list of 256 marks that the words
-// stand for (`unpack`). `pack` makes words of marks again, and proofs/Words.antt shows that the two undo each other, so that
-// a fact on the marks fixes the words. A unit from 256 on has no mark, and marking it changes nothing.
+// `marked`, `mark` and `has_mark` are, on every input, what specs/Marks.antt says of the list of 256 marks that the
+// words stand for (`unpack`). `pack` makes words of marks again, and proofs/Words.antt shows that the two undo each
+// other, so that a fact on the marks fixes the words. A unit from 256 on has no mark, and marking it changes nothing.
 ghost use mathlib.Core.Bool.{true, false};
 ghost use mathlib.Core.Path.{_≡_};
 ghost use Prim.Native.Nat.{_-_, _^_, _<_, _≤_};
 ghost use lib.ListN.{getD};
 ghost use Rattle.marks.specs.Marks.{hasIn, fill, bits, unpack, pack, within};
 
-// The word of which bit h alone is set. Only numbers of 32 bits are shifted by a number that is not fixed: a controller of 32
-// bits has that shift, and would call a routine for one of 64.
+// The word of which bit h alone is set. Only numbers of 32 bits are shifted by a number that is not fixed: a controller
+// of 32 bits has that shift, and would call a routine for one of 64.
 fn bit(h: usize) -> u64
     requires { ⌜ h < 64 ⌝ }
     ensures { λ r. ⌜ r ≡ 2 ^ h ⌝ }

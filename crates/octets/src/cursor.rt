@@ -37,8 +37,8 @@ pub enum Skipped {
     Refused(Refusal),
 }
 
-// Whether fewer than eight bytes are left from a place on. A number of eight bytes is read byte by byte, and the compiler drops the
-// tests of its bytes behind this one.
+// Whether fewer than eight bytes are left from a place on. A number of eight bytes is read byte by byte, and the
+// compiler drops the tests of its bytes behind this one.
 fn lacks_eight(s: &[u8], at: usize) -> bool
     ensures { λ r. ⌜ r ≡ ltb (length (now (s .entry))) (at + 8) ⌝ }
 {

@@ -34,7 +34,8 @@ pub enum Refusal {
     BadGateways,
     // A bad capture block.
     BadBlock,
-    // A datagram that is not cut: not of version 6, of another payload length, or of a traffic class or flow label other than 0.
+    // A datagram that is not cut: not of version 6, of another payload length, or of a traffic class or flow label
+    // other than 0.
     NotCut,
     // A carried checksum that does not hold.
     BadChecksum,

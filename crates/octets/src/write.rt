@@ -1,6 +1,7 @@
 // Fields put into lent bytes at a place. What lies past the end is dropped.
 ghost use mathlib.Core.Path.{_≡_};
-ghost use Rattle.octets.specs.Write.{put, byteBytes, be16Bytes, be32Bytes, be64Bytes, le16Bytes, le32Bytes, le64Bytes};
+ghost use Rattle.octets.specs.Write.{put, byteBytes, be16Bytes, be32Bytes, be64Bytes, le16Bytes, le32Bytes};
+ghost use Rattle.octets.specs.Write.{le64Bytes};
 use super::refusal::Refusal;
 
 // How many bytes were written, or why none was.

@@ -21,7 +21,7 @@ use Rattle.capture.proofs.Exact.{good-holds}
 use Rattle.pcap.specs.Frames.{blocksFrom, headBytes, frameField, framesField, mostFrames}
 use Rattle.pcap.specs.Moves.{sized, placed, blockBytes, counted}
 use Rattle.pcap.specs.Placing.{framesAt, behindAt}
-use Rattle.pcap.specs.Streaming.{goBlock, dueAfter, Made, comeBlock, roomFor, lengthIn, usedIn, framesIn, placedIn}
+use Rattle.pcap.specs.Streaming.{goBlock, dueAfter, Made, comeBlock, Comes}
 use Rattle.pcap.proofs.Back.{took, passed, given}
 use Rattle.pcap.proofs.Blocks.{Each, alone, block-length}
 use Rattle.pcap.proofs.Carrying.{head-length, move-short, move-made}
@@ -124,10 +124,6 @@ none-go : (k : ℕ) (s : List ℕ) (x : ℕ) (r : Read (List Timed)) → framesF
 unfolding comeBlock
 none-go k s x (is p) q e = not-refused _ x e
 none-go k s x (refused z) q e = rw q (let h : z ≡ x = cc in ap refused h)
-
--- what the contract says of an answer, the bytes used, the frames moved and the room
-abbrev pub Comes : ℕ → List ℕ → List ℕ → Answer ℕ → ℕ → ℕ → List ℕ → Type 0
-Comes k s room a u d out = (a ≡ lengthIn (roomFor (comeBlock k s) room)) × ((u ≡ usedIn (roomFor (comeBlock k s) room)) × ((d ≡ framesIn k (roomFor (comeBlock k s) room)) × (out ≡ placedIn (roomFor (comeBlock k s) room) room)))
 
 module _ (k : ℕ) (s room : List ℕ) (w : Written) (g : ofWritten w ≡ counted 3 k s 0 0) where
   pub refused-comes : (e : Refusal) → w ≡ Written.Refused e → (a : Answer ℕ) (u d : ℕ) → (d ≡ k) × ((u ≡ 0) × (a ≡ refused (numberOf e))) → Comes k s room a u d room

@@ -1,5 +1,6 @@
 -- The moves for files of any size, a block at a time: going, a block of the capture; back, the next three frames of pcap.
 use Prim.Native.Nat.{ℕ, _+_, _/_, _≤_}
+use mathlib.Core.Path.{_≡_}
 use mathlib.Core.List.{List, [], _∷_, _++_}
 use lib.ListN.{length, take, drop}
 use lib.Dec.{leb}
@@ -57,6 +58,15 @@ framesIn k (refused n) = k
 abbrev pub placedIn : Answer Made → List ℕ → List ℕ
 placedIn (is m) room = m .bytes ++ drop (length (m .bytes)) room
 placedIn (refused n) room = room
+
+-- what the contract says, where k frames were moved before, of pcap s and the room: the answer a, the bytes u used, the frames d moved
+-- and the room after it
+abbrev pub Comes : ℕ → List ℕ → List ℕ → Answer ℕ → ℕ → ℕ → List ℕ → Type 0
+Comes k s room a u d out =
+    (a ≡ lengthIn (roomFor (comeBlock k s) room)) ×
+    ((u ≡ usedIn (roomFor (comeBlock k s) room)) ×
+    ((d ≡ framesIn k (roomFor (comeBlock k s) room)) ×
+    (out ≡ placedIn (roomFor (comeBlock k s) room) room)))
 
 -- the most bytes that three frames take
 abbrev pub threeFrames : ℕ

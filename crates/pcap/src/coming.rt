@@ -3,7 +3,7 @@ ghost use mathlib.Core.Path.{_≡_};
 ghost use lib.ListN.{length};
 ghost use Rattle.octets.specs.Write.{ofWritten};
 ghost use Rattle.pcap.specs.Moves.{fromPcap, sized, placed, counted};
-ghost use Rattle.pcap.specs.Streaming.{comeBlock, roomFor, lengthIn, usedIn, framesIn, placedIn};
+ghost use Rattle.pcap.specs.Streaming.{Comes};
 use super::fill::put_block;
 use super::fill::put_blocks;
 use super::read::FrameRead;
@@ -46,10 +46,11 @@ fn count(s: &[u8], c: Cursor, k: u64, most: usize) -> Written
     Written::Bytes(n)
 }
 
-// Moves pcap to a capture of blocks, at the front of the room, and answers its length. What is refused is refused in the order of the
-// fields, and last a room that is too small, 7. A refusal writes nothing.
+// Moves pcap to a capture of blocks, at the front of the room, and answers its length. What is refused is refused in
+// the order of the fields, and last a room that is too small, 7. A refusal writes nothing.
 pub fn from_pcap(pcap: &[u8], out: &mut [u8]) -> Written
-    ensures { λ r. ⌜ (ofWritten r ≡ sized (fromPcap (now (pcap .entry))) (now (out .entry))) × (now (out .exit) ≡ placed (fromPcap (now (pcap .entry))) (now (out .entry))) ⌝ }
+    ensures { λ r. ⌜ (ofWritten r ≡ sized (fromPcap (now (pcap .entry))) (now (out .entry)))
+        × (now (out .exit) ≡ placed (fromPcap (now (pcap .entry))) (now (out .entry))) ⌝ }
 {
     match head(pcap, Cursor::START) {
         Skipped::Past(c) => match count(pcap, c, 0, pcap.len()) {
@@ -90,11 +91,13 @@ fn stay(frames: u64, answer: Written) -> CameOn
     }
 }
 
-// The next block, of the next three frames or of all that are left. `part` is what is left of the pcap behind its header and
-// the frames used before, or its next 429 bytes or more. Where nothing is left the answer is 0. What is refused is refused in the order of
-// the fields, and last a room of less than a block, 7. A refusal writes nothing, and what is due stays.
+// The next block, of the next three frames or of all that are left. `part` is what is left of the pcap behind its
+// header and the frames used before, or its next 429 bytes or more. Where nothing is left the answer is 0. What is
+// refused is refused in the order of the fields, and last a room of less than a block, 7. A refusal writes nothing, and
+// what is due stays.
 pub fn one_block(c: FromPcap, part: &[u8], out: &mut [u8]) -> CameOn
-    ensures { λ r. ⌜ (ofWritten (r .answer) ≡ lengthIn (roomFor (comeBlock (c .frames) (now (part .entry))) (now (out .entry)))) × ((r .used ≡ usedIn (roomFor (comeBlock (c .frames) (now (part .entry))) (now (out .entry)))) × ((r .after .frames ≡ framesIn (c .frames) (roomFor (comeBlock (c .frames) (now (part .entry))) (now (out .entry)))) × (now (out .exit) ≡ placedIn (roomFor (comeBlock (c .frames) (now (part .entry))) (now (out .entry))) (now (out .entry))))) ⌝ }
+    ensures { λ r. ⌜ Comes (c .frames) (now (part .entry)) (now (out .entry))
+        (ofWritten (r .answer)) (r .used) (r .after .frames) (now (out .exit)) ⌝ }
 {
     match count(part, Cursor::START, c.frames, 3) {
         Written::Bytes(n) => {

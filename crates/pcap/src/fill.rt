@@ -18,6 +18,15 @@ use octets::write::put_byte;
 use octets::write::put_le16;
 use octets::write::put_le32;
 
+// The bytes of a place in a block: a time, a length and the room for a frame.
+const PLACE: usize = 132;
+
+// Two of them.
+const TWO_PLACES: usize = 2 * PLACE;
+
+// Where the check of a block stands.
+const CHECK: usize = 510;
+
 fn put_zeros(buf: &mut [u8], at: usize, n: usize)
     requires { ⌜ at + n ≤ length (now buf) ⌝ }
     ensures { λ _. ⌜ now (buf .exit) ≡ put at (replicate n 0) (now (buf .entry)) ⌝ }
@@ -32,7 +41,8 @@ fn put_zeros(buf: &mut [u8], at: usize, n: usize)
 // A place with a frame: its time, and n bytes of s from a place on.
 fn put_used(s: &[u8], t: u32, from: usize, n: usize, out: &mut [u8], to: usize)
     requires { ⌜ (from + n ≤ length (now s)) × ((n ≤ 127) × (to + 132 ≤ length (now out))) ⌝ }
-    ensures { λ _. ⌜ now (out .exit) ≡ put to (placeOf (record { time = t; frame = take n (drop from (now (s .entry))) })) (now (out .entry)) ⌝ }
+    ensures { λ _. ⌜ now (out .exit)
+        ≡ put to (placeOf (record { time = t; frame = take n (drop from (now (s .entry))) })) (now (out .entry)) ⌝ }
 {
     let end = from + n;
     put_le32(out, to, t);
@@ -44,7 +54,9 @@ fn put_used(s: &[u8], t: u32, from: usize, n: usize, out: &mut [u8], to: usize)
 // The next frame into a place, where the place is used; the place after the frame.
 fn put_place(s: &[u8], at: usize, used: bool, out: &mut [u8], to: usize) -> usize
     requires { ⌜ (at ≤ length (now s)) × (to + 132 ≤ length (now out)) ⌝ }
-    ensures { λ r. ⌜ (r ≡ choose used (afterAt (now (s .entry)) at) at) × (now (out .exit) ≡ put to (choose used (placeOf (frameAt (now (s .entry)) at)) (replicate 132 0)) (now (out .entry))) ⌝ }
+    ensures { λ r. ⌜ (r ≡ choose used (afterAt (now (s .entry)) at) at)
+        × (now (out .exit)
+        ≡ put to (choose used (placeOf (frameAt (now (s .entry)) at)) (replicate 132 0)) (now (out .entry))) ⌝ }
 {
     if used {
         match frame(s, Cursor { at }) {
@@ -53,12 +65,12 @@ fn put_place(s: &[u8], at: usize, used: bool, out: &mut [u8], to: usize) -> usiz
                 return c.at + n;
             }
             FrameRead::Refused(_) => {
-                put_zeros(out, to, 132);
+                put_zeros(out, to, PLACE);
                 return at;
             }
         }
     }
-    put_zeros(out, to, 132);
+    put_zeros(out, to, PLACE);
     at
 }
 
@@ -75,23 +87,25 @@ fn put_front(out: &mut [u8], to: usize, number: u32, n: u8)
 // The next n frames into a block's places; the place after them.
 fn put_places(s: &[u8], at: usize, n: usize, out: &mut [u8], to: usize) -> usize
     requires { ⌜ (n ≤ 3) × ((at ≤ length (now s)) × (to + 396 ≤ length (now out))) ⌝ }
-    ensures { λ r. ⌜ (r ≡ behindAt n (now (s .entry)) at) × (now (out .exit) ≡ put to (placesBytes (framesAt n (now (s .entry)) at)) (now (out .entry))) ⌝ }
+    ensures { λ r. ⌜ (r ≡ behindAt n (now (s .entry)) at)
+        × (now (out .exit) ≡ put to (placesBytes (framesAt n (now (s .entry)) at)) (now (out .entry))) ⌝ }
 {
     let a = put_place(s, at, 0 < n, out, to);
-    let b = put_place(s, a, 1 < n, out, to + 132);
-    put_place(s, b, 2 < n, out, to + 264)
+    let b = put_place(s, a, 1 < n, out, to + PLACE);
+    put_place(s, b, 2 < n, out, to + TWO_PLACES)
 }
 
 // A block of the next n frames; the place after them.
 pub fn put_block(s: &[u8], at: usize, n: usize, number: u32, out: &mut [u8], to: usize) -> usize
     requires { ⌜ (n ≤ 3) × ((at ≤ length (now s)) × (to + 512 ≤ length (now out))) ⌝ }
-    ensures { λ r. ⌜ (r ≡ behindAt n (now (s .entry)) at) × (now (out .exit) ≡ put to (blockOf number (framesAt n (now (s .entry)) at)) (now (out .entry))) ⌝ }
+    ensures { λ r. ⌜ (r ≡ behindAt n (now (s .entry)) at)
+        × (now (out .exit) ≡ put to (blockOf number (framesAt n (now (s .entry)) at)) (now (out .entry))) ⌝ }
 {
     put_front(out, to, number, n as u8);
     let next = put_places(s, at, n, out, to + 6);
     put_zeros(out, to + 402, 108);
-    let check = fcs(&out[to..to + 510]);
-    put_le16(out, to + 510, check);
+    let check = fcs(&out[to..to + CHECK]);
+    put_le16(out, to + CHECK, check);
     next
 }
 

@@ -81,7 +81,8 @@ fn measure(capture: &[u8]) -> Written
 
 fn put_place(block: &[u8], k: usize, out: &mut [u8], at: usize) -> usize
     requires { ⌜ at + length (placeBytes k (now block)) ≤ length (now out) ⌝ }
-    ensures { λ r. ⌜ (r ≡ at + length (placeBytes k (now (block .entry)))) × (now (out .exit) ≡ put at (placeBytes k (now (block .entry))) (now (out .entry))) ⌝ }
+    ensures { λ r. ⌜ (r ≡ at + length (placeBytes k (now (block .entry))))
+        × (now (out .exit) ≡ put at (placeBytes k (now (block .entry))) (now (out .entry))) ⌝ }
 {
     if k < count(block) {
         return put_frame(out, at, time(block, k), frame(block, k));
@@ -91,7 +92,8 @@ fn put_place(block: &[u8], k: usize, out: &mut [u8], at: usize) -> usize
 
 fn put_block(block: &[u8], out: &mut [u8], at: usize) -> usize
     requires { ⌜ at + length (blockBytes (now block)) ≤ length (now out) ⌝ }
-    ensures { λ r. ⌜ (r ≡ at + length (blockBytes (now (block .entry)))) × (now (out .exit) ≡ put at (blockBytes (now (block .entry))) (now (out .entry))) ⌝ }
+    ensures { λ r. ⌜ (r ≡ at + length (blockBytes (now (block .entry))))
+        × (now (out .exit) ≡ put at (blockBytes (now (block .entry))) (now (out .entry))) ⌝ }
 {
     let a = put_place(block, 0, out, at);
     let b = put_place(block, 1, out, a);
@@ -122,10 +124,11 @@ fn put_blocks(capture: &[u8], out: &mut [u8], from: usize)
     }
 }
 
-// Moves a capture of blocks to pcap, at the front of the room, and answers its length. Any bad block refuses the whole, 15; then a
-// room that is too small, 7. A refusal writes nothing.
+// Moves a capture of blocks to pcap, at the front of the room, and answers its length. Any bad block refuses the whole,
+// 15; then a room that is too small, 7. A refusal writes nothing.
 pub fn to_pcap(capture: &[u8], out: &mut [u8]) -> Written
-    ensures { λ r. ⌜ (ofWritten r ≡ sized (toPcap (now (capture .entry))) (now (out .entry))) × (now (out .exit) ≡ placed (toPcap (now (capture .entry))) (now (out .entry))) ⌝ }
+    ensures { λ r. ⌜ (ofWritten r ≡ sized (toPcap (now (capture .entry))) (now (out .entry)))
+        × (now (out .exit) ≡ placed (toPcap (now (capture .entry))) (now (out .entry))) ⌝ }
 {
     match measure(capture) {
         Written::Bytes(n) => {
@@ -153,7 +156,8 @@ pub struct WentOn {
 
 // The file header, at the front of the room; 7 where that is too small.
 pub fn file_header(out: &mut [u8]) -> Written
-    ensures { λ r. ⌜ (ofWritten r ≡ sized (is headBytes) (now (out .entry))) × (now (out .exit) ≡ placed (is headBytes) (now (out .entry))) ⌝ }
+    ensures { λ r. ⌜ (ofWritten r ≡ sized (is headBytes) (now (out .entry)))
+        × (now (out .exit) ≡ placed (is headBytes) (now (out .entry))) ⌝ }
 {
     if out.len() < HEAD {
         return Written::Refused(Refusal::NoRoom);
@@ -172,10 +176,12 @@ fn stay(block: u64, e: Refusal) -> WentOn
     }
 }
 
-// The block that is due, at the front of the room. A bad block is refused, 15; then a room that is too small, 7: 429 bytes are
-// always enough. A refusal writes nothing, and what is due stays.
+// The block that is due, at the front of the room. A bad block is refused, 15; then a room that is too small, 7: 429
+// bytes are always enough. A refusal writes nothing, and what is due stays.
 pub fn one_block(g: ToPcap, block: &[u8], out: &mut [u8]) -> WentOn
-    ensures { λ r. ⌜ (ofWritten (r .answer) ≡ sized (goBlock (g .block) (now (block .entry))) (now (out .entry))) × ((r .after .block ≡ dueAfter (g .block) (sized (goBlock (g .block) (now (block .entry))) (now (out .entry)))) × (now (out .exit) ≡ placed (goBlock (g .block) (now (block .entry))) (now (out .entry)))) ⌝ }
+    ensures { λ r. ⌜ (ofWritten (r .answer) ≡ sized (goBlock (g .block) (now (block .entry))) (now (out .entry)))
+        × ((r .after .block ≡ dueAfter (g .block) (sized (goBlock (g .block) (now (block .entry))) (now (out .entry))))
+        × (now (out .exit) ≡ placed (goBlock (g .block) (now (block .entry))) (now (out .entry)))) ⌝ }
 {
     if !is_good(block, g.block) {
         return stay(g.block, Refusal::BadBlock);

@@ -39,7 +39,9 @@ pub fn put_head(buf: &mut [u8])
 // A frame in pcap; the place after it.
 pub fn put_frame(buf: &mut [u8], at: usize, time: u32, frame: &[u8]) -> usize
     requires { ⌜ (at + 16 + length (now frame) ≤ length (now buf)) × (length (now frame) ≤ 127) ⌝ }
-    ensures { λ r. ⌜ (r ≡ at + (16 + length (now (frame .entry)))) × (now (buf .exit) ≡ put at (frameBytes (record { time = time; frame = now (frame .entry) })) (now (buf .entry))) ⌝ }
+    ensures { λ r. ⌜ (r ≡ at + (16 + length (now (frame .entry))))
+        × (now (buf .exit)
+        ≡ put at (frameBytes (record { time = time; frame = now (frame .entry) })) (now (buf .entry))) ⌝ }
 {
     let n = frame.len() as u32;
     put_le32(buf, at, time / 1000);

@@ -6,7 +6,9 @@ ghost use Rattle.octets.specs.Write.{ofWritten, put};
 ghost use Rattle.ieee802154.specs.Address.{isPresent};
 ghost use Rattle.relay.specs.Mesh.{isMesh, hasBoth};
 ghost use Rattle.relay.specs.Broadcast.{isBroadcast};
-ghost use Rattle.relay.specs.Headers.{ofMeshField, ofSequence, ofRelay, isEither, meshField, broadcastField, relay, hasAddresses, fieldLength, fieldBytes, relayLength, relayWrote, relayOver};
+ghost use Rattle.relay.specs.Headers.{ofMeshField, ofSequence, ofRelay, isEither, meshField, broadcastField};
+ghost use Rattle.relay.specs.Headers.{relay, hasAddresses, fieldLength, fieldBytes, relayLength, relayWrote};
+ghost use Rattle.relay.specs.Headers.{relayOver};
 use super::broadcast::BROADCAST;
 use super::broadcast::broadcast_len;
 use super::broadcast::put_broadcast;
@@ -174,7 +176,8 @@ impl Relay {
 
     // Writes the headers into the front of the room. An absent address is refused before the room is looked at.
     pub fn emit(self, buf: &mut [u8]) -> Written
-        ensures { λ r. ⌜ (ofWritten r ≡ relayWrote self (now (buf .entry))) × (now (buf .exit) ≡ relayOver self (now (buf .entry))) ⌝ }
+        ensures { λ r. ⌜ (ofWritten r ≡ relayWrote self (now (buf .entry)))
+            × (now (buf .exit) ≡ relayOver self (now (buf .entry))) ⌝ }
     {
         let mesh = self.mesh;
         let broadcast = self.broadcast;

@@ -1,6 +1,7 @@
 // The headers that relays put in front of ours (RFC 4944, 5.2 and 11.1).
 //
-// - `mesh`: who sent a datagram and for whom it is, where the MAC header names only the ends of a hop, and the hops left.
+// - `mesh`: who sent a datagram and for whom it is, where the MAC header names only the ends of a hop, and the hops
+//   left.
 // - `broadcast`: the number that tells a datagram flooded through the mesh from the next one.
 // - `headers`: both in a row, each there or not, read and written.
 //

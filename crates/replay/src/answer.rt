@@ -1,5 +1,5 @@
-// The parts of answers that several commands share. Each puts its text at a place of the output and answers the place after it; a field
-// brings the space before it.
+// The parts of answers that several commands share. Each puts its text at a place of the output and answers the place
+// after it; a field brings the space before it.
 use ieee802154::Address;
 use ieee802154::AddressField;
 use iphc::LabelField;

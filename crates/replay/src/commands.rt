@@ -178,8 +178,8 @@ fn is_emit(c: Command) -> bool {
     }
 }
 
-// The answer to a line whose name is given and whose fields start at a place. `a` is lent for the bytes of its fields, or as a
-// writer's room.
+// The answer to a line whose name is given and whose fields start at a place. `a` is lent for the bytes of its fields,
+// or as a writer's room.
 pub fn answer(
     name: &[u8],
     line: &[u8],

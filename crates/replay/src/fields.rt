@@ -1,4 +1,5 @@
-// The fields of a line that are of this program's own kinds, beside those of `text::field`, whose places they read on from.
+// The fields of a line that are of this program's own kinds, beside those of `text::field`, whose places they read on
+// from.
 ghost use Prim.Native.Nat.{_≤_};
 use check::same;
 use ieee802154::Address;

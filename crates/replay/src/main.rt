@@ -1,6 +1,6 @@
-// Answers commands on the header layer: one command a line on standard input, one answer a line on standard output (oracle/README.md has
-// the protocol). A line that starts with `#` is answered by itself, one that is no command by `bad`, one that does not fit the
-// input by `bad long`.
+// Answers commands on the header layer: one command a line on standard input, one answer a line on standard output
+// (oracle/README.md has the protocol). A line that starts with `#` is answered by itself, one that is no command by
+// `bad`, one that does not fit the input by `bad long`.
 //
 // - `commands`: the commands by name. `mac`, `fragment`, `nhc`, `compressed`, `relays`: what each does, by header.
 // - `fields`: the fields of a line. `answer`: the parts of an answer. `room`: what a writer writes into.
@@ -18,16 +18,19 @@ use text::field;
 use text::line;
 use text::print;
 
-// What is kept from one read to the next: how many bytes of an unfinished line stand at the input's start, whether that line is
-// passed over, and whether to go on.
+// The most bytes of an answer: 512 bytes in hexadecimal and a few words, with room to spare.
+const ANSWER: usize = 4096;
+
+// What is kept from one read to the next: how many bytes of an unfinished line stand at the input's start, whether that
+// line is passed over, and whether to go on.
 struct Kept {
     have: usize,
     skip: bool,
     more: bool,
 }
 
-// The lines answered so far: where the next one starts, whether it is passed over, the place in the output, and whether every write
-// went well.
+// The lines answered so far: where the next one starts, whether it is passed over, the place in the output, and whether
+// every write went well.
 struct Done {
     start: usize,
     skip: bool,
@@ -49,17 +52,17 @@ fn answered(text: &[u8], a: &mut [u8], out: &mut [u8], to: usize) -> usize {
     print::put(out, n, b'\n')
 }
 
-// Whether the output might not hold the answer to a line of so many bytes: the line itself, or 512 bytes in hexadecimal and a few
-// words.
+// Whether the output might not hold the answer to a line of so many bytes: the line itself, or
+// ANSWER bytes.
 fn is_near_full(out: &[u8], to: usize, len: usize) -> bool {
     if out.len() <= to {
         return true;
     }
     let left = out.len() - to;
-    if left < 4096 {
+    if left < ANSWER {
         return true;
     }
-    left - 4096 < len
+    left - ANSWER < len
 }
 
 // Writes the output out where it is near full.

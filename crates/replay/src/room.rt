@@ -7,10 +7,17 @@ use text::print;
 // The largest room.
 const MOST: usize = 512;
 
+// One past the largest number of three digits.
+const PAST: u32 = 1000;
+
+// The same, as a length.
+const PAST_LENGTH: usize = PAST as usize;
+
 // What stands in a room before a writer runs: a byte written past the header is seen.
 const FILL: u8 = 0xa5;
 
-// What a writer did: the length that it announced, the room that it was lent, NONE where the line is no command, and its answer.
+// What a writer did: the length that it announced, the room that it was lent, NONE where the line is no command, and
+// its answer.
 pub struct Emitted {
     pub len: usize,
     pub room: usize,
@@ -42,7 +49,7 @@ fn decimal(line: &[u8], from: usize) -> usize {
         if b'9' < line[i] {
             return field::NONE;
         }
-        value = value % 1000 * 10 + (line[i] - b'0') as u32;
+        value = value % PAST * 10 + (line[i] - b'0') as u32;
         i += 1;
     }
     value as usize
@@ -50,7 +57,7 @@ fn decimal(line: &[u8], from: usize) -> usize {
 
 // So many bytes more than a writer's length, or NONE.
 fn longer(len: usize, more: usize) -> usize {
-    if more < 1000 {
+    if more < PAST_LENGTH {
         return len % 4096 + more;
     }
     field::NONE
@@ -121,8 +128,8 @@ fn put_room(out: &mut [u8], to: usize, room: &[u8]) -> usize {
     answer::hex_bytes(out, n, room)
 }
 
-// A writer's answer. One that wrote another length than it announced, or wrote and refused, has a longer line, which the
-// comparison sees.
+// A writer's answer. One that wrote another length than it announced, or wrote and refused, has a longer line, which
+// the comparison sees.
 pub fn put_emitted(out: &mut [u8], to: usize, e: Emitted, room: &[u8]) -> usize {
     let written = e.written;
     match written {

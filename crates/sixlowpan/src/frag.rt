@@ -3,7 +3,8 @@ ghost use mathlib.Core.Path.{_≡_};
 ghost use Prim.Native.Nat.{_*_};
 ghost use Rattle.octets.specs.Write.{ofWritten, wrote, over};
 ghost use Rattle.sixlowpan.specs.Key.{ofKey, keyOf};
-ghost use Rattle.sixlowpan.specs.Frag.{frag, fragRest, ofParsed, sizeOf, tagOf, offsetOf, isFirst, lengthOf, bytesOf};
+ghost use Rattle.sixlowpan.specs.Frag.{frag, fragRest, ofParsed, sizeOf, tagOf, offsetOf, isFirst, lengthOf};
+ghost use Rattle.sixlowpan.specs.Frag.{bytesOf};
 use ieee802154::Address;
 use ieee802154::AddressField;
 use octets::cursor::ByteRead;
@@ -172,7 +173,8 @@ impl Repr {
 
     // Writes the header into the front of the room, its size masked to 11 bits.
     pub fn emit(self, buf: &mut [u8]) -> Written
-        ensures { λ r. ⌜ (ofWritten r ≡ wrote (lengthOf self) (now (buf .entry))) × (now (buf .exit) ≡ over (lengthOf self) (bytesOf self) (now (buf .entry))) ⌝ }
+        ensures { λ r. ⌜ (ofWritten r ≡ wrote (lengthOf self) (now (buf .entry)))
+            × (now (buf .exit) ≡ over (lengthOf self) (bytesOf self) (now (buf .entry))) ⌝ }
     {
         let n = self.buffer_len();
         if buf.len() < n {

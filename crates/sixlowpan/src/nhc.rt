@@ -4,8 +4,12 @@ ghost use Prim.Native.Nat.{_≤_, _<_};
 ghost use Rattle.octets.specs.Answers.{ofWord};
 ghost use Rattle.octets.specs.Write.{ofWritten, wrote, over, put};
 ghost use Rattle.sixlowpan.specs.Nhc.{ofNhc, nhcOf, nhc};
-ghost use Rattle.sixlowpan.specs.NhcExt.{ofExt, idOf, eidOf, protocolOf, ext, extRest, extFirst, extLength, extBytes};
-ghost use Rattle.sixlowpan.specs.NhcUdp.{ofUdp, ofPorts, ofChecksum, port8, port4, bothPort4, formOf, port, ports, bothPorts, checksum, udp, udpRest, bitOf, portWidth, portsWidth, checksumWidth, portBytes, portsBytes, checksumBytes, udpFirst, udpLength, udpBytes};
+ghost use Rattle.sixlowpan.specs.NhcExt.{ofExt, idOf, eidOf, protocolOf, ext, extRest, extFirst, extLength};
+ghost use Rattle.sixlowpan.specs.NhcExt.{extBytes};
+ghost use Rattle.sixlowpan.specs.NhcUdp.{ofUdp, ofPorts, ofChecksum, port8, port4, bothPort4, formOf, port};
+ghost use Rattle.sixlowpan.specs.NhcUdp.{ports, bothPorts, checksum, udp, udpRest, bitOf, portWidth, portsWidth};
+ghost use Rattle.sixlowpan.specs.NhcUdp.{checksumWidth, portBytes, portsBytes, checksumBytes, udpFirst};
+ghost use Rattle.sixlowpan.specs.NhcUdp.{udpLength, udpBytes};
 use super::next::NextRead;
 use super::next::next_bit;
 use super::next::next_len;
@@ -200,7 +204,8 @@ impl ExtHeaderRepr {
 
     // Writes the header into the front of the room.
     pub fn emit(self, buf: &mut [u8]) -> Written
-        ensures { λ r. ⌜ (ofWritten r ≡ wrote (extLength self) (now (buf .entry))) × (now (buf .exit) ≡ over (extLength self) (extBytes self) (now (buf .entry))) ⌝ }
+        ensures { λ r. ⌜ (ofWritten r ≡ wrote (extLength self) (now (buf .entry)))
+            × (now (buf .exit) ≡ over (extLength self) (extBytes self) (now (buf .entry))) ⌝ }
     {
         let n = self.buffer_len();
         if buf.len() < n {
@@ -467,7 +472,8 @@ impl UdpNhcRepr {
 
     // Writes the header into the front of the room.
     pub fn emit(self, buf: &mut [u8]) -> Written
-        ensures { λ r. ⌜ (ofWritten r ≡ wrote (udpLength self) (now (buf .entry))) × (now (buf .exit) ≡ over (udpLength self) (udpBytes self) (now (buf .entry))) ⌝ }
+        ensures { λ r. ⌜ (ofWritten r ≡ wrote (udpLength self) (now (buf .entry)))
+            × (now (buf .exit) ≡ over (udpLength self) (udpBytes self) (now (buf .entry))) ⌝ }
     {
         let n = self.buffer_len();
         if buf.len() < n {

@@ -1,13 +1,14 @@
 // The fields of a line, read one after another.
 //
-// A place in a line is where its next field starts, and one past its length behind the last field. Each reader takes a place and answers
-// the field's value with the next place. Where the field is not of its kind, the next place is NONE: no field starts there, so
-// every later reader answers NONE too, and only the last place of a line has to be tested.
+// A place in a line is where its next field starts, and one past its length behind the last field. Each reader takes a
+// place and answers the field's value with the next place. Where the field is not of its kind, the next place is NONE:
+// no field starts there, so every later reader answers NONE too, and only the last place of a line has to be tested.
 ghost use mathlib.Core.Path.{_≡_};
 ghost use Prim.Native.Nat.{_+_};
 ghost use lib.ListN.{length, getD, take};
 ghost use lib.Dec.{eqb};
-ghost use Rattle.text.specs.Fields.{partOf, behindOf, nibbleOf, hexAt, digitsAt, decimalOf, endOf, numberAt, decimalAt, countOf, pairsIn, arePairs, bytesAt, roomAfter};
+ghost use Rattle.text.specs.Fields.{partOf, behindOf, nibbleOf, hexAt, digitsAt, decimalOf, endOf, numberAt};
+ghost use Rattle.text.specs.Fields.{decimalAt, countOf, pairsIn, arePairs, bytesAt, roomAfter};
 use super::line::find;
 use std::num::wrapping_sub_u8;
 
@@ -79,8 +80,8 @@ pub fn behind(line: &[u8], end: usize) -> usize
     NONE
 }
 
-// The value of a hexadecimal digit, or 16. Two differences that wrap and two tests compile to code without jumps, which drawn digits
-// would mispredict.
+// The value of a hexadecimal digit, or 16. Two differences that wrap and two tests compile to code without jumps, which
+// drawn digits would mispredict.
 fn nibble(b: u8) -> u8
     ensures { λ r. ⌜ r ≡ nibbleOf b ⌝ }
 {
@@ -186,9 +187,11 @@ pub fn decimal(line: &[u8], from: usize) -> NumberText
     }
 }
 
-// Puts the bytes of so many pairs of digits to the front of the room; answers whether all were there, and each is a digit.
+// Puts the bytes of so many pairs of digits to the front of the room; answers whether all were there, and each is a
+// digit.
 fn pairs(s: &[u8], room: &mut [u8], n: usize) -> bool
-    ensures { λ r. ⌜ (r ≡ arePairs n (now (s .entry)) (now (room .entry))) × (now (room .exit) ≡ pairsIn n (now (s .entry)) (now (room .entry))) ⌝ }
+    ensures { λ r. ⌜ (r ≡ arePairs n (now (s .entry)) (now (room .entry)))
+        × (now (room .exit) ≡ pairsIn n (now (s .entry)) (now (room .entry))) ⌝ }
 {
     if room.len() < n {
         return false;
@@ -228,10 +231,11 @@ fn count(line: &[u8], from: usize, end: usize) -> usize
     NONE
 }
 
-// A field from one place to another, of bytes in hexadecimal, '-' for none, put into the room. A space is no digit, so what ends
-// at the line's end and is all digits is one field.
+// A field from one place to another, of bytes in hexadecimal, '-' for none, put into the room. A space is no digit, so
+// what ends at the line's end and is all digits is one field.
 fn bytes_to(line: &[u8], from: usize, end: usize, room: &mut [u8]) -> BytesText
-    ensures { λ r. ⌜ (r ≡ bytesAt (now (line .entry)) from end (now (room .entry))) × (now (room .exit) ≡ roomAfter (now (line .entry)) from end (now (room .entry))) ⌝ }
+    ensures { λ r. ⌜ (r ≡ bytesAt (now (line .entry)) from end (now (room .entry)))
+        × (now (room .exit) ≡ roomAfter (now (line .entry)) from end (now (room .entry))) ⌝ }
 {
     let n = count(line, from, end);
     if room.len() < n {
@@ -254,7 +258,9 @@ fn bytes_to(line: &[u8], from: usize, end: usize, room: &mut [u8]) -> BytesText
 
 // A field of bytes in hexadecimal, '-' for none, put to the front of the room.
 pub fn bytes(line: &[u8], from: usize, room: &mut [u8]) -> BytesText
-    ensures { λ r. ⌜ (r ≡ bytesAt (now (line .entry)) from (endOf (now (line .entry)) from) (now (room .entry))) × (now (room .exit) ≡ roomAfter (now (line .entry)) from (endOf (now (line .entry)) from) (now (room .entry))) ⌝ }
+    ensures { λ r. ⌜ (r ≡ bytesAt (now (line .entry)) from (endOf (now (line .entry)) from) (now (room .entry)))
+        × (now (room .exit)
+        ≡ roomAfter (now (line .entry)) from (endOf (now (line .entry)) from) (now (room .entry))) ⌝ }
 {
     let end = find(line, from, b' ');
     bytes_to(line, from, end, room)
@@ -262,7 +268,8 @@ pub fn bytes(line: &[u8], from: usize, room: &mut [u8]) -> BytesText
 
 // The bytes of a line's last field: its end need not be looked for.
 pub fn last_bytes(line: &[u8], from: usize, room: &mut [u8]) -> BytesText
-    ensures { λ r. ⌜ (r ≡ bytesAt (now (line .entry)) from (length (now (line .entry))) (now (room .entry))) × (now (room .exit) ≡ roomAfter (now (line .entry)) from (length (now (line .entry))) (now (room .entry))) ⌝ }
+    ensures { λ r. ⌜ (r ≡ bytesAt (now (line .entry)) from (length (now (line .entry))) (now (room .entry)))
+        × (now (room .exit) ≡ roomAfter (now (line .entry)) from (length (now (line .entry))) (now (room .entry))) ⌝ }
 {
     bytes_to(line, from, line.len(), room)
 }

@@ -1,5 +1,5 @@
-// Each puts its text at a place of the room and answers the place after it, or puts nothing and answers the place where there is
-// no room for all of it.
+// Each puts its text at a place of the room and answers the place after it, or puts nothing and answers the place where
+// there is no room for all of it.
 ghost use mathlib.Core.Path.{_≡_};
 ghost use mathlib.Core.List.{[], _∷_};
 ghost use Prim.Native.Nat.{_<_};

@@ -1,8 +1,8 @@
-// Moves a capture of blocks to pcap: standard input to standard output, or with two arguments a file to a file (the change
-// request "Captures in pcap").
+// Moves a capture of blocks to pcap: standard input to standard output, or with two arguments a file to a file (the
+// change request "Captures in pcap").
 //
-// What a block comes to is the library's (`pcap::going::one_block`); here blocks are read, up to 128 at a time, and what they come to is
-// written. A block comes to at most 429 bytes, so that the room holds what one read brings.
+// What a block comes to is the library's (`pcap::going::one_block`); here blocks are read, up to 128 at a time, and
+// what they come to is written. A block comes to at most 429 bytes, so that the room holds what one read brings.
 use octets::write::Written;
 use pcap::going::ToPcap;
 use pcap::going::file_header;
@@ -21,8 +21,8 @@ struct Moved {
     more: bool,
 }
 
-// What is kept from one read to the next: what is due, how many bytes of an unfinished block stand at the input's start, whether to
-// go on, and whether all was moved.
+// What is kept from one read to the next: what is due, how many bytes of an unfinished block stand at the input's
+// start, whether to go on, and whether all was moved.
 struct Kept {
     due: ToPcap,
     have: usize,
