@@ -16,6 +16,12 @@ use octets::refusal::Refusal;
 // The bytes of a block.
 pub const BLOCK: usize = 512;
 
+// The bytes of a place in a block: a time, a length and the room for a frame.
+const PLACE: usize = 132;
+
+// Where the check of a block stands.
+const CHECK: usize = 510;
+
 // The frames of a good block, or why it is none.
 pub enum Judged {
     Good(usize),
@@ -56,7 +62,7 @@ pub fn time(block: &[u8], k: usize) -> u32
     ensures { λ r. ⌜ r ≡ timeOf k (now (block .entry)) ⌝ }
 {
     if k < count(block) {
-        wide_at(block, 6 + 132 * k)
+        wide_at(block, 6 + PLACE * k)
     } else {
         0
     }
@@ -66,7 +72,7 @@ fn frame_len(block: &[u8], k: usize) -> usize
     requires { ⌜ k < countOf (now block) ⌝ }
     ensures { λ r. ⌜ r ≡ min 127 (lengthAt k (now (block .entry))) ⌝ }
 {
-    let n = block[6 + 132 * k + 4] as usize;
+    let n = block[6 + PLACE * k + 4] as usize;
     if n < 127 { n } else { 127 }
 }
 
@@ -75,7 +81,7 @@ pub fn frame(block: &[u8], k: usize) -> &[u8]
     ensures { λ r. ⌜ now r ≡ frameOf k (now (block .entry)) ⌝ }
 {
     if k < count(block) {
-        let from = 6 + 132 * k + 5;
+        let from = 6 + PLACE * k + 5;
         let end = from + frame_len(block, k);
         return &block[from..end];
     }
@@ -100,15 +106,15 @@ fn good_place(block: &[u8], k: usize) -> bool
     requires { ⌜ (length (now block) ≡ 512) × (k < 3) ⌝ }
     ensures { λ r. ⌜ r ≡ goodPlace k (now (block .entry)) ⌝ }
 {
-    let from = 6 + 132 * k;
+    let from = 6 + PLACE * k;
     if k < count(block) {
         let n = block[from + 4] as usize;
         if 127 < n {
             return false;
         }
-        return zero_in(block, from + 5 + n, from + 132);
+        return zero_in(block, from + 5 + n, from + PLACE);
     }
-    zero_in(block, from, from + 132)
+    zero_in(block, from, from + PLACE)
 }
 
 fn good_head(block: &[u8], number: u64) -> bool
@@ -141,8 +147,8 @@ fn good_end(block: &[u8]) -> bool
     requires { ⌜ length (now block) ≡ 512 ⌝ }
     ensures { λ r. ⌜ r ≡ goodEnd (now (block .entry)) ⌝ }
 {
-    if zero_in(block, 402, 510) {
-        return word_at(block, 510) == fcs(&block[0..510]);
+    if zero_in(block, 402, CHECK) {
+        return word_at(block, CHECK) == fcs(&block[0..CHECK]);
     }
     false
 }

@@ -9,6 +9,9 @@ ghost use Prim.Native.Nat.{_-_, _^_, _<_, _≤_};
 ghost use lib.ListN.{getD};
 ghost use Rattle.marks.specs.Marks.{hasIn, fill, bits, unpack, pack, within};
 
+// The first unit of the last word.
+const LAST: usize = 192;
+
 // The word of which bit h alone is set. Only numbers of 32 bits are shifted by a number that is not fixed: a controller
 // of 32 bits has that shift, and would call a routine for one of 64.
 fn bit(h: usize) -> u64
@@ -86,7 +89,7 @@ fn words_have(m: [u64; 4], b: bool, u: usize, e: usize) -> bool
     if word_has(m[2], b, 128, u, e) {
         return true;
     }
-    word_has(m[3], b, 192, u, e)
+    word_has(m[3], b, LAST, u, e)
 }
 
 // The mark of unit u.
@@ -110,7 +113,7 @@ pub fn mark(m: [u64; 4], u: usize, e: usize) -> [u64; 4]
         m[0] | mask(0, u, e),
         m[1] | mask(64, u, e),
         m[2] | mask(128, u, e),
-        m[3] | mask(192, u, e),
+        m[3] | mask(LAST, u, e),
     ]
 }
 

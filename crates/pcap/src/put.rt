@@ -13,6 +13,12 @@ pub const HEAD: usize = 24;
 // The bytes before each frame.
 pub const FRONT: usize = 16;
 
+// The milliseconds of a second.
+const SECOND: u32 = 1000;
+
+// The microseconds of a millisecond.
+const MILLISECOND: u32 = 1000;
+
 pub fn put_all(buf: &mut [u8], at: usize, s: &[u8])
     requires { ⌜ at + length (now s) ≤ length (now buf) ⌝ }
     ensures { λ _. ⌜ now (buf .exit) ≡ put at (now (s .entry)) (now (buf .entry)) ⌝ }
@@ -44,8 +50,8 @@ pub fn put_frame(buf: &mut [u8], at: usize, time: u32, frame: &[u8]) -> usize
         ≡ put at (frameBytes (record { time = time; frame = now (frame .entry) })) (now (buf .entry))) ⌝ }
 {
     let n = frame.len() as u32;
-    put_le32(buf, at, time / 1000);
-    put_le32(buf, at + 4, time % 1000 * 1000);
+    put_le32(buf, at, time / SECOND);
+    put_le32(buf, at + 4, time % SECOND * MILLISECOND);
     put_le32(buf, at + 8, n);
     put_le32(buf, at + 12, n);
     put_all(buf, at + 16, frame);

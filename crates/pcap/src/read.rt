@@ -13,6 +13,15 @@ use octets::cursor::WideRead;
 use octets::cursor::WordRead;
 use octets::refusal::Refusal;
 
+// The milliseconds of a second.
+const SECOND: u64 = 1000;
+
+// The microseconds of a millisecond.
+const MILLISECOND: u32 = 1000;
+
+// The same, in 64 bits.
+const WIDE_MILLISECOND: u64 = MILLISECOND as u64;
+
 // A frame: its time, where its bytes begin, and how many they are.
 pub enum FrameRead {
     Frame(u32, Cursor, usize),
@@ -96,10 +105,10 @@ fn judge_time(sec: u32, micro: u32, c: Cursor) -> WideRead
     if 1_000_000 <= micro {
         return WideRead::Refused(Refusal::NotHeld);
     }
-    if micro % 1000 != 0 {
+    if micro % MILLISECOND != 0 {
         return WideRead::Refused(Refusal::NotHeld);
     }
-    let t = (sec as u64) * 1000 + (micro as u64) / 1000;
+    let t = (sec as u64) * SECOND + (micro as u64) / WIDE_MILLISECOND;
     if 0x1_0000_0000 <= t {
         return WideRead::Refused(Refusal::NotHeld);
     }

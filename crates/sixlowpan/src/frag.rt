@@ -15,6 +15,9 @@ use octets::write::Written;
 use octets::write::put_be16;
 use octets::write::put_byte;
 
+// One past the largest size that a header holds: eleven bits.
+const SIZES: u16 = 2048;
+
 pub const FIRST_FRAGMENT_HEADER_SIZE: usize = 4;
 
 pub const NEXT_FRAGMENT_HEADER_SIZE: usize = 5;
@@ -83,8 +86,8 @@ impl Repr {
     fn rest(buf: &[u8], word: u16, tag: u16, c: Cursor) -> Parsed
         ensures { λ r. ⌜ ofParsed r ≡ fragRest word tag (now (buf .entry)) (c .at) ⌝ }
     {
-        let size = word % 2048;
-        let dispatch = word / 2048;
+        let size = word % SIZES;
+        let dispatch = word / SIZES;
         if dispatch == 0b11000 {
             return Parsed::Header(Repr::FirstFragment { size, tag }, c.at);
         }
@@ -182,12 +185,12 @@ impl Repr {
         }
         match self {
             Repr::FirstFragment { size, tag } => {
-                put_be16(buf, 0, 0xc000 + size % 2048);
+                put_be16(buf, 0, 0xc000 + size % SIZES);
                 put_be16(buf, 2, tag);
                 Written::Bytes(n)
             }
             Repr::Fragment { size, tag, offset } => {
-                put_be16(buf, 0, 0xe000 + size % 2048);
+                put_be16(buf, 0, 0xe000 + size % SIZES);
                 put_be16(buf, 2, tag);
                 put_byte(buf, 4, offset.0);
                 Written::Bytes(n)
