@@ -55,7 +55,8 @@ use Rattle.expand.specs.Plain as Plain
 use Rattle.expand.specs.Plain.{UdpField, Headers, transport, byNext, behind, headers, plain, bytesOf, sized}
 use Rattle.expand.specs.Full as Full
 use Rattle.expand.specs.Sum.{noSum, carriedAt, wasElided, summedBy}
-use Rattle.expand.specs.Expand.{Expansion, totalOf, finished, expansion}
+use Rattle.expand.specs.Expand.{Expansion, finished, expansion}
+use Rattle.expand.specs.Chain.{totalOf}
 use Rattle.expand.specs.declared.checksum.UdpSum.{UdpSum}
 use Rattle.expand.proofs.Plain.{expansion-plain}
 use Rattle.expand.proofs.SumLaws.{Bytes}

@@ -7,7 +7,7 @@ use mathlib.Core.List.{List, _++_}
 use mathlib.Core.Path.{_≡_, refl, sym, ap, subst, _∙_}
 use lib.ListN.{length, getD, take, drop, length-take, length-drop}
 use lib.Dec.{eqb, ltb, leb}
-use borrow.Author.Tests.{eq-eqb, ne-eqb, eqb-true, eqb-false, leb-true}
+use borrow.Author.Tests.{eq-eqb, ne-eqb, eqb-true, eqb-false, leb-true, le-leb, lt-leb}
 use Rattle.octets.specs.Read.{Answer, is, refused, Placed, Read, Reader, got, andThen, choose, branch, give, refuse, byte, be16, skip, _>>=_}
 use Rattle.octets.specs.Refusal.{numberOf}
 use Rattle.octets.specs.Write.{put}
@@ -38,12 +38,14 @@ use Rattle.iphc.specs.declared.header.Parsed.{Parsed}
 use Rattle.iphc.proofs.Lengths.{iphc-length}
 use Rattle.expand.specs.Full.{isAbsent, ipv6With, udpFull}
 use Rattle.expand.specs.Sum.{noSum}
-use Rattle.expand.specs.Chain.{Chain, rest, udpThen, extension, ipv6, Link, udpLink, extLink, innerLink, Around, fullNumber, badLength, octets, extData, extBody, innerByte, extKind, idAt, udpStep, linkOf, link, within, past, inside, behindNext, headerThen, udpEnd, onward, chain, nhcNumber, nextNumber, headNumber, fullSize, extFull, sizeOf, fullBytes, sumFor, sumIn, ofLink, around, passed, entered, fewer, ofWalked, endOf, Lays, Walks}
+use Rattle.expand.specs.Chain.{Chain, rest, udpThen, extension, ipv6, Link, udpLink, extLink, innerLink, Around, fullNumber, badLength, octets, extData, extBody, innerByte, extKind, idAt, udpStep, linkOf, link, within, past, inside, behindNext, headerThen, udpEnd, onward, chain, nhcNumber, nextNumber, headNumber, fullSize, extFull, sizeOf, fullBytes, sumFor, sumIn, ofLink, around, passed, entered, fewer, ofWalked, endOf, Lays, Walks, totalOf, totalIn, ofTotal, ending, Measure}
 use Rattle.expand.specs.declared.checksum.UdpSum.{UdpSum}
 use Rattle.expand.specs.declared.chain.Step.{Step}
 use Rattle.expand.specs.declared.chain.Way.{Way}
 use Rattle.expand.specs.declared.chain.Walked.{Walked}
-use Rattle.expand.proofs.Inverting.{invert, got-value, got-next}
+use Rattle.expand.specs.declared.chain.TotalAnswer.{TotalAnswer}
+use Rattle.expand.proofs.Inverting.{invert, got-value, got-next, value-is}
+use Rattle.expand.proofs.CopyLaws.{before}
 use Rattle.expand.proofs.FullLaws.{length-ipv6, length-udp, length-ext, taken-length}
 use Rattle.expand.proofs.ExpandLaws.{rest-told}
 
@@ -348,118 +350,217 @@ pub next-size : (left : ℕ) (ctx s : List ℕ) (w : Around) (next : NextHeader)
 next-size left ctx s w next at c n e = behind-size left s (chain left ctx) (chain-size left ctx s) w next at c n e
 
 -- ---- the walk in code
+-- how long the whole is, where it is not refused
+pub total-value : (size : WordField) (e n t : ℕ) → totalIn size e n ≡ is t → t ≡ totalOf size e
+unfolding totalIn
+total-value size e n t q = go (leb e (totalOf size e)) (leb e n) q
+  where
+    go : (a b : Bool) → choose a (choose b (is (totalOf size e)) (refused 7)) (refused 10) ≡ is t → t ≡ totalOf size e
+    go true true g = sym (value-is _ _ g)
+    go true false g = not-refused _ 7 g
+    go false b g = not-refused _ 10 g
+
+module _ (size : WordField) (e n t : ℕ) (q : t ≡ totalOf size e) where
+  pub total-bad : t < e → refused 10 ≡ totalIn size e n
+  unfolding totalIn
+  total-bad h = rw (lt-leb e (totalOf size e) (subst (λ z. z < e) q h)) refl
+
+  pub total-short : e ≤ t → n < e → refused 7 ≡ totalIn size e n
+  unfolding totalIn
+  total-short h g = rw (le-leb e (totalOf size e) (subst (λ z. e ≤ z) q h), lt-leb e n g) refl
+
+  pub total-good : e ≤ t → e ≤ n → is t ≡ totalIn size e n
+  unfolding totalIn
+  total-good h g = rw (le-leb e (totalOf size e) (subst (λ z. e ≤ z) q h), le-leb e n g) (ap is q)
+
+-- the end of a chain c: the last refusals, and then its length
+module _ (w : Way) (l : List ℕ) (c : Chain) (len : ℕ) (i : len ≡ w .at + sizeOf c) (y : TotalAnswer) (p : ofTotal y ≡ totalIn (w .size) len (length l)) where
+  abbrev sum : UdpSum
+  sum = sumIn (w .routed) (w .ip) (w .at) c
+
+  ends-is : (t : ℕ) (u : UdpSum) → y ≡ TotalAnswer.Is t → u ≡ sum → is (record { len = len; sum = u }) ≡ ending w (length l) c
+  ends-is t u g h = subst (λ z. _≡_ {A = Answer Measure} (is (record { len = len; sum = u })) (andThen (totalIn (w .size) z (length l)) (λ x. is (record { len = z; sum = sum })))) i (rw (sym p ∙ ap ofTotal g, h) refl)
+
+  ends-no : (e : Refusal) → y ≡ TotalAnswer.Refused e → refused (numberOf e) ≡ ending w (length l) c
+  ends-no e g = subst (λ z. _≡_ {A = Answer Measure} (refused (numberOf e)) (andThen (totalIn (w .size) z (length l)) (λ x. is (record { len = z; sum = sum })))) i (rw (sym p ∙ ap ofTotal g) refl)
+
 -- the payload
-pub walks-rest : (w : Way) (s l n : List ℕ) (at k : ℕ) → k ≡ length (drop at s) → n ≡ put (w .at) (take (length s) (drop at s)) l → (p m : ℕ) → Walks (Walked.End (w .at + k) noSum) w (got (rest p (drop at s)) m) l n
-unfolding sizeOf fullBytes sumIn
-walks-rest w s l n at k e q p m = record { answer = rw e refl; bytes = rest-told s l n (w .at) at q }
+module _ (w : Way) (s l : List ℕ) (at k : ℕ) (y : TotalAnswer) (i : k ≡ length (drop at s)) (q : ofTotal y ≡ totalIn (w .size) (w .at + k) (length l)) (p m : ℕ) where
+  rest-size : w .at + k ≡ w .at + sizeOf (rest p (drop at s))
+  unfolding sizeOf
+  rest-size = ap (λ z. w .at + z) i
+
+  pub walks-rest : (t : ℕ) (n : List ℕ) → y ≡ TotalAnswer.Is t → n ≡ put (w .at) (take (length s) (drop at s)) l → Walks (Walked.End (w .at + k) noSum) w (got (rest p (drop at s)) m) l n
+  unfolding fullBytes sumIn
+  walks-rest t n g b = record { answer = ends-is w l (rest p (drop at s)) (w .at + k) rest-size y q t noSum g refl; bytes = rest-told s l n (w .at) at b }
+
+  pub walks-rest-no : (e : Refusal) → y ≡ TotalAnswer.Refused e → Walks (Walked.Refused e) w (got (rest p (drop at s)) m) l l
+  walks-rest-no e g = record { answer = ends-no w l (rest p (drop at s)) (w .at + k) rest-size y q e g; bytes = refl }
 
 -- UDP
 pub walks-unknown : (w : Way) (h : UdpNhcRepr) (s l : List ℕ) (at : ℕ) (t : Bool) → t ≡ (w .routed && isAbsent (h .checksum)) → t ≡ true → Walks (Walked.Refused Refusal.NotExpanded) w (udpEnd (around w) h s at) l l
 unfolding udpEnd
-walks-unknown w h s l at t p q = rw (sym p ∙ q) (record { answer = refl; bytes = tt })
+walks-unknown w h s l at t p q = rw (sym p ∙ q) (record { answer = refl; bytes = refl })
 
-pub walks-udp : (w : Way) (h : UdpNhcRepr) (s l m n : List ℕ) (at k x : ℕ) (t : Bool) (u : UdpSum) → t ≡ (w .routed && isAbsent (h .checksum)) → t ≡ false → x ≡ w .total - w .at → m ≡ put (w .at) (udpFull h x) l → n ≡ put (w .at + 8) (take (length s) (drop at s)) m → u ≡ sumFor (w .routed) (w .ip) (w .at) (h .checksum) → k ≡ length (drop at s)
-    → Walks (Walked.End (w .at + 8 + k) u) w (udpEnd (around w) h s at) l n
-unfolding udpEnd sizeOf fullBytes sumIn
-walks-udp w h s l m n at k x t u p q e a b f g =
-    let b2 : n ≡ put (w .at + 8) (drop at s) m = rest-told s m n (w .at + 8) at b in
-    let a2 : m ≡ put (w .at) (udpFull h (w .total - w .at)) l = a ∙ ap (λ z. put (w .at) (udpFull h z) l) e in
-    rw (sym p ∙ q) (record {
-      answer = rw (f, g, add-assoc (w .at) 8 (length (drop at s))) refl;
-      bytes = more l m n (w .at) 8 (udpFull h (w .total - w .at)) (drop at s) (length-udp h (w .total - w .at)) a2 b2;
-    })
+module _ (w : Way) (h : UdpNhcRepr) (s l : List ℕ) (at k : ℕ) (v : Bool) (y : TotalAnswer) (p : v ≡ (w .routed && isAbsent (h .checksum))) (f : v ≡ false) (i : k ≡ length (drop at s)) (q : ofTotal y ≡ totalIn (w .size) (w .at + 8 + k) (length l)) where
+  udp-size : w .at + 8 + k ≡ w .at + sizeOf (udpThen h (drop at s))
+  unfolding sizeOf
+  udp-size = add-assoc (w .at) 8 k ∙ ap (λ z. w .at + (8 + z)) i
 
--- an extension header, and what is behind it
-walks-ext-go : (r : Walked) (w : Way) (x y : ℕ) (d : List ℕ) (m : Read Chain) (l n o : List ℕ) → n ≡ put (w .at) (extFull y d) l → ((c : Chain) (k : ℕ) → m ≡ got c k → y ≡ headNumber c) → Walks r (passed x (length d) w) m n o
-    → Walks r w (andThen m (λ p. got (extension x d (p .value)) (p .next))) l o
-unfolding sizeOf fullBytes sumIn
-walks-ext-go r w x y d (refused e) l n o a f W = record { answer = W .answer; bytes = tt }
-walks-ext-go r w x y d (is p) l n o a f W =
+  pub walks-udp : (t x : ℕ) (u : UdpSum) (m n : List ℕ) → y ≡ TotalAnswer.Is t → x ≡ t - w .at → m ≡ put (w .at) (udpFull h x) l → n ≡ put (w .at + 8) (take (length s) (drop at s)) m → u ≡ sumFor (w .routed) (w .ip) (w .at) (h .checksum)
+      → Walks (Walked.End (w .at + 8 + k) u) w (udpEnd (around w) h s at) l n
+  unfolding udpEnd fullBytes sumIn
+  walks-udp t x u m n g e a b r =
+      let z : x ≡ totalOf (w .size) (w .at + 8 + k) - w .at = e ∙ ap (λ d. d - w .at) (total-value (w .size) (w .at + 8 + k) (length l) t (sym q ∙ ap ofTotal g)) in
+      let b2 : n ≡ put (w .at + 8) (drop at s) m = rest-told s m n (w .at + 8) at b in
+      let a2 : m ≡ put (w .at) (udpFull h (totalOf (w .size) (w .at + 8 + k) - w .at)) l = a ∙ ap (λ d. put (w .at) (udpFull h d) l) z in
+      rw (sym p ∙ f) (record {
+        answer = ends-is w l (udpThen h (drop at s)) (w .at + 8 + k) udp-size y q t u g r;
+        bytes = more l m n (w .at) 8 (udpFull h (totalOf (w .size) (w .at + 8 + k) - w .at)) (drop at s) (length-udp h (totalOf (w .size) (w .at + 8 + k) - w .at)) a2 b2;
+      })
+
+  pub walks-udp-no : (e : Refusal) → y ≡ TotalAnswer.Refused e → Walks (Walked.Refused e) w (udpEnd (around w) h s at) l l
+  unfolding udpEnd
+  walks-udp-no e g = rw (sym p ∙ f) (record { answer = ends-no w l (udpThen h (drop at s)) (w .at + 8 + k) udp-size y q e g; bytes = refl })
+
+-- an extension header, put when what is behind it is there
+ending-ext : (w : Way) (x : ℕ) (d : List ℕ) (c : Chain) (n : ℕ) → ending (passed x (length d) w) n c ≡ ending w n (extension x d c)
+unfolding sizeOf sumIn
+ending-ext w x d c n = ap (λ z. andThen (totalIn (w .size) z n) (λ t. is (record { len = z; sum = sumIn (eqb x 43 || w .routed) (w .ip) (w .at + fullSize (length d)) c }))) (add-assoc (w .at) (fullSize (length d)) (sizeOf c))
+
+walks-ext-go : (len : ℕ) (u : UdpSum) (w : Way) (x y : ℕ) (d : List ℕ) (m : Read Chain) (l n o : List ℕ) → ((c : Chain) (k : ℕ) → m ≡ got c k → y ≡ headNumber c) → Walks (Walked.End len u) (passed x (length d) w) m l n → o ≡ put (w .at) (extFull y d) n
+    → Walks (Walked.End len u) w (andThen m (λ p. got (extension x d (p .value)) (p .next))) l o
+unfolding fullBytes
+walks-ext-go len u w x y d (refused e) l n o f W a = not-refused _ e (sym (W .answer))
+walks-ext-go len u w x y d (is p) l n o f W a =
     let c = p .value in
-    let g : y ≡ headNumber c = f c (p .next) refl in
-    let a2 : n ≡ put (w .at) (extFull (headNumber c) d) l = a ∙ ap (λ z. put (w .at) (extFull z d) l) g in
     record {
-      answer = W .answer ∙ ap (λ z. is (record { len = z; sum = sumIn (eqb x 43 || w .routed) (w .ip) (w .at + fullSize (length d)) c })) (add-assoc (w .at) (fullSize (length d)) (sizeOf c));
-      bytes = more l n o (w .at) (fullSize (length d)) (extFull (headNumber c) d) (fullBytes (w .total) (w .at + fullSize (length d)) c) (length-ext (headNumber c) d) a2 (W .bytes);
+      answer = W .answer ∙ ending-ext w x d c (length l);
+      bytes = before l n o (w .at) (fullSize (length d)) (extFull (headNumber c) d) (fullBytes (totalOf (w .size) len) (w .at + fullSize (length d)) c) (length-ext (headNumber c) d) (W .bytes) (a ∙ ap (λ z. put (w .at) (extFull z d) n) (f c (p .next) refl));
     }
 
-walks-ipv6-go : (r : Walked) (w : Way) (h : Repr) (x y : ℕ) (m : Read Chain) (l n o : List ℕ) → y ≡ w .total - (w .at + 40) → n ≡ put (w .at) (ipv6With h x y) l → ((c : Chain) (k : ℕ) → m ≡ got c k → x ≡ headNumber c) → Walks r (entered h w) m n o
-    → Walks r w (andThen m (λ p. got (ipv6 h (p .value)) (p .next))) l o
-unfolding sizeOf fullBytes sumIn
-walks-ipv6-go r w h x y (refused e) l n o q a f W = record { answer = W .answer; bytes = tt }
-walks-ipv6-go r w h x y (is p) l n o q a f W =
+walks-ext-no : (e : Refusal) (w : Way) (x : ℕ) (d : List ℕ) (m : Read Chain) (l n : List ℕ) → Walks (Walked.Refused e) (passed x (length d) w) m l n → Walks (Walked.Refused e) w (andThen m (λ p. got (extension x d (p .value)) (p .next))) l n
+walks-ext-no e w x d (refused k) l n W = record { answer = W .answer; bytes = W .bytes }
+walks-ext-no e w x d (is p) l n W = record { answer = W .answer ∙ ending-ext w x d (p .value) (length l); bytes = W .bytes }
+
+-- an IPv6 header likewise
+ending-ipv6 : (w : Way) (h : Repr) (c : Chain) (n : ℕ) → ending (entered h w) n c ≡ ending w n (ipv6 h c)
+unfolding sizeOf sumIn
+ending-ipv6 w h c n = ap (λ z. andThen (totalIn (w .size) z n) (λ t. is (record { len = z; sum = sumIn false (w .at) (w .at + 40) c }))) (add-assoc (w .at) 40 (sizeOf c))
+
+walks-ipv6-go : (len : ℕ) (u : UdpSum) (w : Way) (h : Repr) (x y : ℕ) (m : Read Chain) (l n o : List ℕ) → y ≡ totalOf (w .size) len - (w .at + 40) → ((c : Chain) (k : ℕ) → m ≡ got c k → x ≡ headNumber c) → Walks (Walked.End len u) (entered h w) m l n → o ≡ put (w .at) (ipv6With h x y) n
+    → Walks (Walked.End len u) w (andThen m (λ p. got (ipv6 h (p .value)) (p .next))) l o
+unfolding fullBytes
+walks-ipv6-go len u w h x y (refused e) l n o q f W a = not-refused _ e (sym (W .answer))
+walks-ipv6-go len u w h x y (is p) l n o q f W a =
     let c = p .value in
-    let g : x ≡ headNumber c = f c (p .next) refl in
-    let a2 : n ≡ put (w .at) (ipv6With h (headNumber c) (w .total - (w .at + 40))) l = a ∙ ap (λ z. put (w .at) (ipv6With h z y) l) g ∙ ap (λ z. put (w .at) (ipv6With h (headNumber c) z) l) q in
+    let z = totalOf (w .size) len - (w .at + 40) in
+    let a2 : o ≡ put (w .at) (ipv6With h (headNumber c) z) n = a ∙ ap (λ z. put (w .at) (ipv6With h z y) n) (f c (p .next) refl) ∙ ap (λ z. put (w .at) (ipv6With h (headNumber c) z) n) q in
     record {
-      answer = W .answer ∙ ap (λ z. is (record { len = z; sum = sumIn false (w .at) (w .at + 40) c })) (add-assoc (w .at) 40 (sizeOf c));
-      bytes = more l n o (w .at) 40 (ipv6With h (headNumber c) (w .total - (w .at + 40))) (fullBytes (w .total) (w .at + 40) c) (length-ipv6 h (headNumber c) (w .total - (w .at + 40))) a2 (W .bytes);
+      answer = W .answer ∙ ending-ipv6 w h c (length l);
+      bytes = before l n o (w .at) 40 (ipv6With h (headNumber c) z) (fullBytes (totalOf (w .size) len) (w .at + 40) c) (length-ipv6 h (headNumber c) z) (W .bytes) a2;
     }
+
+walks-ipv6-no : (e : Refusal) (w : Way) (h : Repr) (m : Read Chain) (l n : List ℕ) → Walks (Walked.Refused e) (entered h w) m l n → Walks (Walked.Refused e) w (andThen m (λ p. got (ipv6 h (p .value)) (p .next))) l n
+walks-ipv6-no e w h (refused k) l n W = record { answer = W .answer; bytes = W .bytes }
+walks-ipv6-no e w h (is p) l n W = record { answer = W .answer ∙ ending-ipv6 w h (p .value) (length l); bytes = W .bytes }
 
 fewer-go : (r : Walked) (w : Way) (m : Read Chain) (l n : List ℕ) → Walks r (fewer w) m l n → Walks r w m l n
-fewer-go r w (is p) l n W = record { answer = W .answer; bytes = W .bytes }
-fewer-go r w (refused e) l n W = record { answer = W .answer; bytes = tt }
+fewer-go (Walked.End e u) w (is p) l n W = record { answer = W .answer; bytes = W .bytes }
+fewer-go (Walked.End e u) w (refused k) l n W = record { answer = W .answer; bytes = tt }
+fewer-go (Walked.Refused e) w (is p) l n W = record { answer = W .answer; bytes = W .bytes }
+fewer-go (Walked.Refused e) w (refused k) l n W = record { answer = W .answer; bytes = W .bytes }
 
 -- ---- the two functions: one case of the code each
-module _ (r : Walked) (w : Way) (ctx s l o : List ℕ) (at : ℕ) where
-  abbrev Chains : NextHeader → Type 0
-  Chains next = Walks r w (behindNext next (chain (w .left) ctx (around w)) s at) l o
+module _ (w : Way) (ctx s l : List ℕ) (at : ℕ) where
+  abbrev Chains : Walked → NextHeader → List ℕ → Type 0
+  Chains r next o = Walks r w (behindNext next (chain (w .left) ctx (around w)) s at) l o
 
-  pub chain-rest : (next : NextHeader) (p : IpProtocol) → next ≡ Uncompressed p → ((x n : ℕ) → Walks r w (got (rest x (drop at s)) n) l o) → Chains next
+  pub chain-rest : (r : Walked) (o : List ℕ) (next : NextHeader) (p : IpProtocol) → next ≡ Uncompressed p → ((x n : ℕ) → Walks r w (got (rest x (drop at s)) n) l o) → Chains r next o
   unfolding behindNext
-  chain-rest next p q f = rw q (f (p .0) at)
+  chain-rest r o next p q f = rw q (f (p .0) at)
 
   -- where a step was read, the chain is what is behind it
   step-is : (next : NextHeader) (y : Step) (k : Link) (n : ℕ) → next ≡ Compressed → ofLink y s ≡ link (w .left) s at → ofLink y s ≡ got k n → onward ctx (shorter (w .left) ctx) (around w) k s n ≡ behindNext next (chain (w .left) ctx (around w)) s at
   unfolding behindNext
   step-is next y k n q p g = rw q (sym (chain-is (w .left) ctx (around w) s at ∙ rw (sym p ∙ g) refl))
 
-  pub chain-udp : (next : NextHeader) (y : Step) (h : UdpNhcRepr) (n : ℕ) → next ≡ Compressed → ofLink y s ≡ link (w .left) s at → y ≡ Step.Udp h n → Walks r w (udpEnd (around w) h s n) l o → Chains next
-  unfolding onward
-  chain-udp next y h n q p g W = subst (λ z. Walks r w z l o) (step-is next y (udpLink h) n q p (ap (λ z. ofLink z s) g)) W
+  pub chain-refused : (next : NextHeader) (y : Step) (e : Refusal) → next ≡ Compressed → ofLink y s ≡ link (w .left) s at → y ≡ Step.Refused e → Chains (Walked.Refused e) next l
+  unfolding behindNext
+  chain-refused next y e q p g = rw (q, chain-is (w .left) ctx (around w) s at, sym p ∙ ap (λ z. ofLink z s) g) (record { answer = refl; bytes = refl })
 
-  pub chain-inner : (next : NextHeader) (y : Step) (n : ℕ) (v : Way) → next ≡ Compressed → ofLink y s ≡ link (w .left) s at → y ≡ Step.Inner n → v ≡ fewer w
-      → Walks r v (headerThen ctx (inside (v .src)) (inside (v .dst)) (chain (v .left) ctx) s n) l o → Chains next
+  pub chain-udp : (r : Walked) (o : List ℕ) (next : NextHeader) (y : Step) (h : UdpNhcRepr) (n : ℕ) → next ≡ Compressed → ofLink y s ≡ link (w .left) s at → y ≡ Step.Udp h n → Walks r w (udpEnd (around w) h s n) l o → Chains r next o
   unfolding onward
-  chain-inner next y n v q p g i X =
+  chain-udp r o next y h n q p g W = subst (λ z. Walks r w z l o) (step-is next y (udpLink h) n q p (ap (λ z. ofLink z s) g)) W
+
+  pub chain-inner : (r : Walked) (o : List ℕ) (next : NextHeader) (y : Step) (n : ℕ) (v : Way) → next ≡ Compressed → ofLink y s ≡ link (w .left) s at → y ≡ Step.Inner n → v ≡ fewer w
+      → Walks r v (headerThen ctx (inside (v .src)) (inside (v .dst)) (chain (v .left) ctx) s n) l o → Chains r next o
+  unfolding onward
+  chain-inner r o next y n v q p g i X =
       let W : Walks r (fewer w) (headerThen ctx (inside (w .src)) (inside (w .dst)) (chain (w .left - 1) ctx) s n) l o = subst (λ z. Walks r z (headerThen ctx (inside (z .src)) (inside (z .dst)) (chain (z .left) ctx) s n) l o) i X in
       let k : 1 ≤ w .left = link-steps (w .left) s at innerLink n (sym p ∙ ap (λ z. ofLink z s) g) .wants in
       subst (λ z. Walks r w z l o) (ap (λ z. headerThen ctx (inside (w .src)) (inside (w .dst)) z s n) (sym (shorter-is (w .left) ctx k)) ∙ step-is next y innerLink n q p (ap (λ z. ofLink z s) g))
       (fewer-go r w (headerThen ctx (inside (w .src)) (inside (w .dst)) (chain (w .left - 1) ctx) s n) l o W)
 
-  pub chain-ext : (next then : NextHeader) (y : Step) (x z from to len : ℕ) (n : List ℕ) (v : Way) → next ≡ Compressed → ofLink y s ≡ link (w .left) s at → y ≡ Step.Extension x then from to → len ≡ to - from → z ≡ nextNumber then s to → n ≡ put (w .at) (extFull z (take len (drop from s))) l
-      → v ≡ passed x len w → Walks r v (behindNext then (chain (v .left) ctx (around v)) s to) n o → Chains next
-  unfolding onward
-  chain-ext next then y x z from to len n v q p g e f a u X =
-      let W : Walks r (passed x len w) (behindNext then (chain (w .left - 1) ctx (past x (around w))) s to) n o = subst (λ z. Walks r z (behindNext then (chain (z .left) ctx (around z)) s to) n o) u X in
-      let d = take (to - from) (drop from s) in
-      let t = link-steps (w .left) s at (extLink x d then) to (sym p ∙ ap (λ z. ofLink z s) g) in
-      let k : 1 ≤ w .left = t .wants in
-      let i : len ≡ length d = e ∙ sym (taken-length s from (to - from) (omega (arith, t .ends))) in
-      let a2 : n ≡ put (w .at) (extFull z d) l = a ∙ ap (λ v. put (w .at) (extFull z (take v (drop from s))) l) e in
-      let m = behindNext then (chain (w .left - 1) ctx (past x (around w))) s to in
-      let W2 : Walks r (passed x (length d) w) m n o = subst (λ v. Walks r (passed x v w) m n o) i W in
-      subst (λ v. Walks r w v l o)
-      (ap (λ v. andThen (behindNext then (v (past x (around w))) s to) (λ p. got (extension x d (p .value)) (p .next))) (sym (shorter-is (w .left) ctx k)) ∙ step-is next y (extLink x d then) to q p (ap (λ z. ofLink z s) g))
-      (walks-ext-go r w x z d m l n o a2 (λ c k h. f ∙ number-read then (w .left - 1) ctx (past x (around w)) s to c k h) W2)
+  -- behind an extension header, from the place `to` on
+  module _ (next then : NextHeader) (y : Step) (x from to len : ℕ) (v : Way) (q : next ≡ Compressed) (p : ofLink y s ≡ link (w .left) s at) (g : y ≡ Step.Extension x then from to) (e : len ≡ to - from) (i : v ≡ passed x len w) where
+    abbrev carried : List ℕ
+    carried = take (to - from) (drop from s)
 
-pub chain-refused : (w : Way) (ctx s l : List ℕ) (at : ℕ) (next : NextHeader) (y : Step) (e : Refusal) → next ≡ Compressed → ofLink y s ≡ link (w .left) s at → y ≡ Step.Refused e → Walks (Walked.Refused e) w (behindNext next (chain (w .left) ctx (around w)) s at) l l
-unfolding behindNext
-chain-refused w ctx s l at next y e q p g = rw (q, chain-is (w .left) ctx (around w) s at, sym p ∙ ap (λ z. ofLink z s) g) (record { answer = refl; bytes = tt })
+    abbrev rests : Read Chain
+    rests = behindNext then (chain (w .left - 1) ctx (past x (around w))) s to
+
+    facts : Steps (extLink x carried then) (w .left) s at to
+    facts = link-steps (w .left) s at (extLink x carried then) to (sym p ∙ ap (λ z. ofLink z s) g)
+
+    long : len ≡ length carried
+    long = e ∙ sym (taken-length s from (to - from) (omega (arith, facts .ends)))
+
+    within-it : (r : Walked) (n : List ℕ) → Walks r v (behindNext then (chain (v .left) ctx (around v)) s to) l n → Walks r (passed x (length carried) w) rests l n
+    within-it r n X =
+        let W : Walks r (passed x len w) rests l n = subst (λ z. Walks r z (behindNext then (chain (z .left) ctx (around z)) s to) l n) i X in
+        subst (λ z. Walks r (passed x z w) rests l n) long W
+
+    whole-is : andThen rests (λ p. got (extension x carried (p .value)) (p .next)) ≡ behindNext next (chain (w .left) ctx (around w)) s at
+    unfolding onward
+    whole-is = ap (λ z. andThen (behindNext then (z (past x (around w))) s to) (λ p. got (extension x carried (p .value)) (p .next))) (sym (shorter-is (w .left) ctx (facts .wants))) ∙ step-is next y (extLink x carried then) to q p (ap (λ z. ofLink z s) g)
+
+    pub chain-ext : (r : Walked) (k : ℕ) (u : UdpSum) (z : ℕ) (n o : List ℕ) → z ≡ nextNumber then s to → Walks r v (behindNext then (chain (v .left) ctx (around v)) s to) l n → r ≡ Walked.End k u → o ≡ put (w .at) (extFull z (take len (drop from s))) n → Chains (Walked.End k u) next o
+    chain-ext r k u z n o f X j a =
+        let W : Walks (Walked.End k u) (passed x (length carried) w) rests l n = within-it (Walked.End k u) n (subst (λ t. Walks t v (behindNext then (chain (v .left) ctx (around v)) s to) l n) j X) in
+        subst (λ t. Walks (Walked.End k u) w t l o) whole-is
+        (walks-ext-go k u w x z carried rests l n o (λ c j h. f ∙ number-read then (w .left - 1) ctx (past x (around w)) s to c j h) W (a ∙ ap (λ t. put (w .at) (extFull z (take t (drop from s))) n) e))
+
+    pub chain-ext-no : (r : Walked) (d : Refusal) (n : List ℕ) → Walks r v (behindNext then (chain (v .left) ctx (around v)) s to) l n → r ≡ Walked.Refused d → Chains (Walked.Refused d) next n
+    chain-ext-no r d n X j =
+        let W : Walks (Walked.Refused d) (passed x (length carried) w) rests l n = within-it (Walked.Refused d) n (subst (λ t. Walks t v (behindNext then (chain (v .left) ctx (around v)) s to) l n) j X) in
+        subst (λ t. Walks (Walked.Refused d) w t l n) whole-is (walks-ext-no d w x carried rests l n W)
 
 -- an IPv6 header
-pub header-refused : (w : Way) (ctx s l : List ℕ) (ls ld : AddressField) (at : ℕ) (y : Parsed) (e : Refusal) → ls ≡ inside (w .src) → ld ≡ inside (w .dst) → ofParsed y ≡ iphc ctx ls ld s at → y ≡ Parsed.Refused e
-    → Walks (Walked.Refused e) w (headerThen ctx (inside (w .src)) (inside (w .dst)) (chain (w .left) ctx) s at) l l
-unfolding headerThen
-header-refused w ctx s l ls ld at y e i j p g = rw (← i, ← j, sym p ∙ ap ofParsed g) (record { answer = refl; bytes = tt })
+module _ (w : Way) (ctx s l : List ℕ) (ls ld : AddressField) (at : ℕ) (y : Parsed) (i : ls ≡ inside (w .src)) (j : ld ≡ inside (w .dst)) (p : ofParsed y ≡ iphc ctx ls ld s at) where
+  abbrev Headers : Walked → List ℕ → Type 0
+  Headers r o = Walks r w (headerThen ctx (inside (w .src)) (inside (w .dst)) (chain (w .left) ctx) s at) l o
 
-pub header-on : (r : Walked) (w : Way) (ctx s l n o : List ℕ) (ls ld : AddressField) (at to x z : ℕ) (y : Parsed) (h : Repr) (v : Way) → ls ≡ inside (w .src) → ld ≡ inside (w .dst) → ofParsed y ≡ iphc ctx ls ld s at → y ≡ Parsed.Header h to → x ≡ nextNumber (h .«next_header») s to → z ≡ w .total - (w .at + 40) → n ≡ put (w .at) (ipv6With h x z) l
-    → v ≡ entered h w → Walks r v (behindNext (h .«next_header») (chain (v .left) ctx (around v)) s to) n o → Walks r w (headerThen ctx (inside (w .src)) (inside (w .dst)) (chain (w .left) ctx) s at) l o
-unfolding headerThen
-header-on r w ctx s l n o ls ld at to x z y h v i j p g f e a u X =
-    let W : Walks r (entered h w) (behindNext (h .«next_header») (chain (w .left) ctx (within h)) s to) n o = subst (λ z. Walks r z (behindNext (h .«next_header») (chain (z .left) ctx (around z)) s to) n o) u X in
-    rw (← i, ← j, sym p ∙ ap ofParsed g)
-    (walks-ipv6-go r w h x z (behindNext (h .«next_header») (chain (w .left) ctx (within h)) s to) l n o e a (λ c k i. f ∙ number-read (h .«next_header») (w .left) ctx (within h) s to c k i) W)
+  pub header-refused : (e : Refusal) → y ≡ Parsed.Refused e → Headers (Walked.Refused e) l
+  unfolding headerThen
+  header-refused e g = rw (← i, ← j, sym p ∙ ap ofParsed g) (record { answer = refl; bytes = refl })
+
+  module _ (h : Repr) (to : ℕ) (v : Way) (g : y ≡ Parsed.Header h to) (a : v ≡ entered h w) where
+    abbrev behind-it : Read Chain
+    behind-it = behindNext (h .«next_header») (chain (w .left) ctx (within h)) s to
+
+    inner : (r q : Walked) (n : List ℕ) → Walks r v (behindNext (h .«next_header») (chain (v .left) ctx (around v)) s to) l n → r ≡ q → Walks q (entered h w) behind-it l n
+    inner r q n X k = subst (λ z. Walks q z (behindNext (h .«next_header») (chain (z .left) ctx (around z)) s to) l n) a (subst (λ z. Walks z v (behindNext (h .«next_header») (chain (v .left) ctx (around v)) s to) l n) k X)
+
+    pub header-on : (r : Walked) (len : ℕ) (u : UdpSum) (x z : ℕ) (n o : List ℕ) → x ≡ nextNumber (h .«next_header») s to → z ≡ totalOf (w .size) len - (w .at + 40) → Walks r v (behindNext (h .«next_header») (chain (v .left) ctx (around v)) s to) l n → r ≡ Walked.End len u → o ≡ put (w .at) (ipv6With h x z) n → Headers (Walked.End len u) o
+    unfolding headerThen
+    header-on r len u x z n o f e X k b =
+        rw (← i, ← j, sym p ∙ ap ofParsed g)
+        (walks-ipv6-go len u w h x z behind-it l n o e (λ c m q. f ∙ number-read (h .«next_header») (w .left) ctx (within h) s to c m q) (inner r (Walked.End len u) n X k) b)
+
+    pub header-no : (r : Walked) (e : Refusal) (n : List ℕ) → Walks r v (behindNext (h .«next_header») (chain (v .left) ctx (around v)) s to) l n → r ≡ Walked.Refused e → Headers (Walked.Refused e) n
+    unfolding headerThen
+    header-no r e n X k = rw (← i, ← j, sym p ∙ ap ofParsed g) (walks-ipv6-no e w h behind-it l n (inner r (Walked.Refused e) n X k))
 
 -- ---- how far a step in code reads
 pub ext-facts : {y : Step} {x from to : ℕ} {then : NextHeader} (left : ℕ) (s : List ℕ) (at : ℕ) → ofLink y s ≡ link left s at → y ≡ Step.Extension x then from to → (at + 2 + (to - from) ≤ to) × (to ≤ length s) × (1 ≤ left)

@@ -2,10 +2,11 @@
 use Prim.Native.Nat.{ℕ, suc, _+_, _-_, _≤_, _<_, min}
 use native.Mathlib.Omega.{arith, min-cases}
 use native.Mathlib.Numerals.{add-one}
+use native.Mathlib.Nat.{add-zero}
 use mathlib.Core.List.{List, [], _∷_, _++_, append-assoc}
 use mathlib.Core.Path.{_≡_, refl, sym, ap, _∙_}
 use lib.ListN.{length, getD, set, take, drop, drop-of-length-le, length-set, length-take, length-drop}
-use lib.Seq.{drop-cons, getD-take, getD-drop, sets, sets-eq, set-append-left}
+use lib.Seq.{drop-cons, getD-take, getD-drop, sets, sets-eq, set-append-left, set-comm}
 use Rattle.octets.specs.Write.{put}
 use Rattle.octets.proofs.Puts.{put-none, put-nil}
 
@@ -77,3 +78,21 @@ put-front-part at [] x y h = refl
 put-front-part at (b ∷ bs) x y h =
     let e : set (x ++ y) at b ≡ set x at b ++ y = set-append-left x y at b (omega arith) in
     rw e (put-front-part (at + 1) bs (set x at b) y (omega (arith, length-set x at b)))
+
+-- ---- what stands in front, put last
+set-put : (k at x : ℕ) (bs l : List ℕ) → k < at → set (put at bs l) k x ≡ put at bs (set l k x)
+unfolding put
+set-put k at x [] l h = refl
+set-put k at x (b ∷ bs) l h = set-put k (at + 1) x bs (set l at b) (omega arith) ∙ ap (λ z. put (at + 1) bs z) (set-comm l at k b x (λ e. omega (arith, e)))
+
+put-before : (at : ℕ) (cs bs l : List ℕ) → put at cs (put (at + length cs) bs l) ≡ put at (cs ++ bs) l
+unfolding put
+put-before at [] bs l = ap (λ k. put k bs l) (add-zero at)
+put-before at (c ∷ cs) bs l =
+    let e : at + length (c ∷ cs) ≡ at + 1 + length cs = omega arith in
+    ap (λ z. put (at + 1) cs z) (set-put at (at + length (c ∷ cs)) c bs l (omega arith))
+    ∙ ap (λ k. put (at + 1) cs (put k bs (set l at c))) e
+    ∙ put-before (at + 1) cs bs (set l at c)
+
+pub before : (l m n : List ℕ) (at k : ℕ) (cs bs : List ℕ) → length cs ≡ k → m ≡ put (at + k) bs l → n ≡ put at cs m → n ≡ put at (cs ++ bs) l
+before l m n at k cs bs h p q = q ∙ ap (put at cs) (p ∙ ap (λ z. put (at + z) bs l) (sym h)) ∙ put-before at cs bs l

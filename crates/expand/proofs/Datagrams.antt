@@ -18,8 +18,8 @@ use Rattle.iphc.specs.declared.header.Repr.{Repr}
 use Rattle.sixlowpan.specs.declared.nhc.UdpNhcRepr.{UdpNhcRepr}
 use Rattle.expand.specs.Sum.{words, onesSum, pseudo, seen, summedAt, noSum, elidedAt, carriedAt, wasElided, stands, summedBy}
 use Rattle.expand.specs.Full.{ipv6With, udpFull, wordOr, isAbsent}
-use Rattle.expand.specs.Chain.{Chain, rest, udpThen, extension, ipv6, within, behindNext, headerThen, chain, chained, headNumber, fullSize, extFull, sizeOf, fullBytes, sumFor, sumIn}
-use Rattle.expand.specs.Expand.{Expansion, Measure, totalOf, finished, bytesOf, sized, expansion, measureOf, measured, answered, written}
+use Rattle.expand.specs.Chain.{Chain, rest, udpThen, extension, ipv6, within, behindNext, headerThen, chain, chained, headNumber, fullSize, extFull, sizeOf, fullBytes, sumFor, sumIn, Measure, totalOf}
+use Rattle.expand.specs.Expand.{Expansion, finished, bytesOf, sized, expansion, measureOf, measured, answered, written}
 use Rattle.expand.specs.declared.checksum.UdpSum.{UdpSum}
 use Rattle.expand.proofs.Inverting.{invert, got-value, value-is}
 use Rattle.expand.proofs.FullLaws.{length-ipv6, length-ext}

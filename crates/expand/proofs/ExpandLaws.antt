@@ -17,8 +17,8 @@ use Rattle.octets.proofs.Puts.{put-front, put-append, more}
 use Rattle.ieee802154.specs.declared.addr.AddressField.{AddressField}
 use Rattle.expand.specs.Sum.{summedBy, summedIn}
 use Rattle.expand.specs.Full.{ipv6With}
-use Rattle.expand.specs.Expand.{Expansion, totalOf, finished, finishedIn, bytesOf, sized, measured, answered, written}
-use Rattle.expand.specs.Chain.{Chain, ipv6, headNumber, sizeOf, fullBytes, sumIn}
+use Rattle.expand.specs.Expand.{Expansion, finished, finishedIn, bytesOf, sized, measured, answered, written}
+use Rattle.expand.specs.Chain.{Chain, ipv6, headNumber, sizeOf, fullBytes, sumIn, totalOf}
 use Rattle.expand.specs.declared.checksum.UdpSum.{UdpSum}
 use Rattle.expand.proofs.SumLaws.{length-summed, summed-front}
 

@@ -2,26 +2,28 @@
 use Prim.Native.Nat.{ℕ, _+_, _-_, _*_, _≤_, _<_}
 use native.Mathlib.Omega.{arith}
 use mathlib.Core.List.{List, _++_}
-use mathlib.Core.Bool.{Bool, false}
+use mathlib.Core.Bool.{Bool, true, false}
 use mathlib.Core.Path.{_≡_, refl, sym, ap, subst, _∙_}
 use lib.ListN.{length, drop, length-append}
 use lib.Dec.{ltb, leb}
-use borrow.Author.Tests.{lt-ltb, le-ltb, le-leb, lt-leb}
+use borrow.Author.Tests.{lt-ltb, le-ltb, leb-true}
 use Rattle.octets.specs.Read.{Answer, is, refused, Placed, Read, got, andThen, choose}
 use Rattle.octets.specs.Refusal.{numberOf}
 use Rattle.octets.specs.Write.{put, over}
 use Rattle.octets.specs.declared.refusal.Refusal.{Refusal}
 use Rattle.octets.specs.declared.field.WordField.{WordField}
 use Rattle.octets.proofs.Spans.{not-refused}
-use Rattle.octets.proofs.Puts.{put-front, more}
+use Rattle.octets.proofs.Puts.{put-front}
+use Rattle.expand.proofs.CopyLaws.{before}
+use Rattle.expand.proofs.Inverting.{value-is}
 use Rattle.ieee802154.specs.declared.addr.AddressField.{AddressField}
 use Rattle.iphc.specs.Iphc.{iphc}
 use Rattle.iphc.specs.Answers.{ofParsed}
 use Rattle.iphc.specs.declared.header.Repr.{Repr}
 use Rattle.iphc.specs.declared.header.Parsed.{Parsed}
 use Rattle.expand.specs.Full.{ipv6With, udpFull}
-use Rattle.expand.specs.Expand.{Expansion, totalOf, finished, finishedIn, bytesOf, sized, expansion, headed, measured, answered, written}
-use Rattle.expand.specs.Chain.{Chain, rest, udpThen, extension, ipv6, within, behindNext, headerThen, chain, chained, nextNumber, headNumber, fullSize, extFull, sizeOf, fullBytes, sumIn, outer, Ended, ofWalked, endOf, Lays, Walks}
+use Rattle.expand.specs.Expand.{Expansion, measureOf, finished, finishedIn, bytesOf, sized, expansion, headed, measured, answered, written}
+use Rattle.expand.specs.Chain.{Chain, rest, udpThen, extension, ipv6, within, behindNext, headerThen, chain, chained, nextNumber, headNumber, fullSize, extFull, sizeOf, fullBytes, sumIn, outer, ofWalked, ending, endOf, totalIn, Lays, Walks, totalOf, Measure}
 use Rattle.expand.specs.declared.checksum.UdpSum.{UdpSum}
 use Rattle.expand.specs.declared.chain.Walked.{Walked}
 use Rattle.expand.proofs.FullLaws.{length-ipv6, length-udp, length-ext}
@@ -46,120 +48,95 @@ pub length-bytes : (size : WordField) (c : Chain) → length (bytesOf size c) �
 unfolding bytesOf
 length-bytes size c = finished-length size (sumIn false 0 0 c) (fullBytes (totalOf size (sizeOf c)) 0 c) ∙ length-full (totalOf size (sizeOf c)) 0 c
 
--- ---- what the measuring walk says
-abbrev lenOf : Answer Ended → ℕ
-lenOf (is e) = e .len
-lenOf (refused n) = n
+-- ---- what the walk behind the outer header says
+-- a chain c behind the header h, in a room: the answer is that of the walk's end
+ended : (size : WordField) (h : Repr) (c : Chain) (room : List ℕ) → ending (outer h size) (length room) c ≡ answered (sized size (ipv6 h c)) room
+unfolding totalIn sized sizeOf sumIn
+ended size h c room = go (leb (40 + sizeOf c) (totalOf size (40 + sizeOf c)))
+  where
+    whole : length (bytesOf size (ipv6 h c)) ≡ 40 + sizeOf c
+    whole = length-bytes size (ipv6 h c)
 
-abbrev sumOr : UdpSum → Answer Ended → UdpSum
-sumOr u (is e) = e .sum
-sumOr u (refused n) = u
+    told : (t : Bool) → leb (40 + sizeOf c) (length room) ≡ t → _≡_ {A = Answer Measure} (andThen (choose t (is (totalOf size (40 + sizeOf c))) (refused 7)) (λ x. is (record { len = 40 + sizeOf c; sum = sumIn false 0 40 c }))) (choose t (is (record { len = 40 + sizeOf c; sum = sumIn false 0 40 c })) (refused 7))
+    told true q = refl
+    told false q = refl
 
--- the chain that a walk behind the outer header of h ended with
-pub record Ends (m : Read Chain) (len : ℕ) (u : UdpSum) : Type 0 where
-  pub found : Chain
-  pub place : ℕ
-  pub is-read : m ≡ got found place
-  pub length-is : len ≡ 40 + sizeOf found
-  pub sum-is : u ≡ sumIn false 0 40 found
+    go : (t : Bool) → _≡_ {A = Answer Measure} (andThen (choose t (choose (leb (40 + sizeOf c) (length room)) (is (totalOf size (40 + sizeOf c))) (refused 7)) (refused 10)) (λ x. is (record { len = 40 + sizeOf c; sum = sumIn false 0 40 c }))) (answered (choose t (is (record { bytes = bytesOf size (ipv6 h c); sum = sumIn false 0 40 c })) (refused 10)) room)
+    go true = rw whole (told (leb (40 + sizeOf c) (length room)) refl)
+    go false = refl
 
-ends-go : (h : Repr) (t len : ℕ) (u : UdpSum) (m : Read Chain) → is (record { len = len; sum = u }) ≡ endOf (outer h t) m → Ends m len u
-ends-go h t len u (is p) e = record { found = p .value; place = p .next; is-read = refl; length-is = ap lenOf e; sum-is = ap (sumOr u) e }
-ends-go h t len u (refused n) e = not-refused _ n (sym e)
-
-pub walk-ends : (y : Walked) (h : Repr) (t len : ℕ) (u : UdpSum) (m : Read Chain) (l n : List ℕ) → Walks y (outer h t) m l n → y ≡ Walked.End len u → Ends m len u
-walk-ends y h t len u m l n W g = ends-go h t len u m (sym (ap ofWalked g) ∙ W .answer)
-
-refused-go : (h : Repr) (t : ℕ) (size : WordField) (e : ℕ) (m : Read Chain) → refused e ≡ endOf (outer h t) m → andThen m (λ p. sized size (ipv6 h (p .value))) ≡ refused e
-refused-go h t size e (is p) q = not-refused _ e q
-refused-go h t size e (refused n) q = sym (ap (λ z. refused (lenOf z)) q)
+-- where it is refused nothing is written
+unwritten : (m : Answer Expansion) (room : List ℕ) (e : ℕ) → refused e ≡ answered m room → room ≡ written m room
+unwritten (refused n) room e q = refl
+unwritten (is x) room e q = go (leb (length (x .bytes)) (length room)) refl q
+  where
+    go : (t : Bool) → leb (length (x .bytes)) (length room) ≡ t → refused e ≡ choose t (is (measureOf x)) (refused 7) → room ≡ over (length (x .bytes)) (x .bytes) room
+    go true h g = not-refused _ e g
+    go false h g = rw h refl
 
 module _ (ctx : List ℕ) (size : WordField) (h : Repr) (s : List ℕ) (at : ℕ) where
   abbrev pub behindOuter : Read Chain
   behindOuter = behindNext (h .«next_header») (chain 7 ctx (within h)) s at
 
-  pub walk-refused : (y : Walked) (e : Refusal) (t : ℕ) (l n : List ℕ) → Walks y (outer h t) behindOuter l n → y ≡ Walked.Refused e → headed ctx size h s at ≡ refused (numberOf e)
-  unfolding headed
-  walk-refused y e t l n W g = refused-go h t size (numberOf e) behindOuter (sym (ap ofWalked g) ∙ W .answer)
+  headed-ended : (m : Read Chain) (room : List ℕ) → endOf (outer h size) (length room) m ≡ answered (andThen m (λ p. sized size (ipv6 h (p .value)))) room
+  headed-ended (is p) room = ended size h (p .value) room
+  headed-ended (refused n) room = refl
 
-  module _ (len t : ℕ) (u : UdpSum) (E : Ends behindOuter len u) (ht : t ≡ totalOf size len) where
-    abbrev whole : Chain
-    whole = ipv6 h (E .found)
-
-    size-is : len ≡ sizeOf whole
-    unfolding sizeOf
-    size-is = E .length-is
-
-    pub at-least : 40 ≤ len
-    at-least = omega (arith, E .length-is)
-
-    pub at-most : length s ≤ 127 → len ≤ 455
-    at-most k = omega (arith, E .length-is, next-size 7 ctx s (within h) (h .«next_header») at (E .found) (E .place) (E .is-read), k)
-
-    total-is : t ≡ totalOf size (sizeOf whole)
-    total-is = ht ∙ ap (totalOf size) size-is
-
-    sum-whole : u ≡ sumIn false 0 0 whole
-    unfolding sumIn
-    sum-whole = E .sum-is
-
-    headed-is : headed ctx size h s at ≡ sized size whole
+  module _ (y : Walked) (room n : List ℕ) (W : Walks y (outer h size) behindOuter room n) where
+    answer-is : ofWalked y ≡ answered (headed ctx size h s at) room
     unfolding headed
-    headed-is = rw (E .is-read) refl
+    answer-is = W .answer ∙ headed-ended behindOuter room
 
-    pub sized-bad : t < len → headed ctx size h s at ≡ refused 10
-    unfolding sized
-    sized-bad k = headed-is ∙ rw (lt-leb (sizeOf whole) (totalOf size (sizeOf whole)) (rw (← total-is, ← size-is) k)) refl
+    pub walk-refused : (e : Refusal) → y ≡ Walked.Refused e → (refused (numberOf e) ≡ answered (headed ctx size h s at) room) × (n ≡ written (headed ctx size h s at) room)
+    walk-refused e g =
+        let q : refused (numberOf e) ≡ answered (headed ctx size h s at) room = ap ofWalked (sym g) ∙ answer-is in
+        (q, subst (λ z. Lays z (outer h size) behindOuter room n) g (W .bytes) ∙ unwritten (headed ctx size h s at) room (numberOf e) q)
 
-    sized-good : len ≤ t → headed ctx size h s at ≡ is (record { bytes = bytesOf size whole; sum = u })
-    unfolding sized
-    sized-good k = headed-is ∙ rw (le-leb (sizeOf whole) (totalOf size (sizeOf whole)) (rw (← total-is, ← size-is) k), sum-whole) refl
+    -- m: the room with the outer header put; out: with the checksum
+    module _ (len : ℕ) (u : UdpSum) (g : y ≡ Walked.End len u) where
+      pub walk-answered : is (record { len = len; sum = u }) ≡ answered (headed ctx size h s at) room
+      walk-answered = ap ofWalked (sym g) ∙ answer-is
 
-    length-whole : length (bytesOf size whole) ≡ len
-    length-whole = length-bytes size whole ∙ sym size-is
+      pub walk-written : (x z : ℕ) (m out : List ℕ) → x ≡ nextNumber (h .«next_header») s at → z ≡ totalOf size len - 40 → m ≡ put 0 (ipv6With h x z) n → out ≡ finishedIn size u len m → out ≡ written (headed ctx size h s at) room
+      unfolding headed sized bytesOf fullBytes
+      walk-written x z m out f e a q = go behindOuter refl (subst (λ v. Lays v (outer h size) behindOuter room n) g (W .bytes)) walk-answered
+        where
+          -- the chain c was read, and its room holds it
+          put-all : (c : Chain) (k : ℕ) → behindOuter ≡ got c k → n ≡ put 40 (fullBytes (totalOf size len) 40 c) room → (t : Bool) → leb (sizeOf (ipv6 h c)) (totalOf size (sizeOf (ipv6 h c))) ≡ t
+              → is (record { len = len; sum = u }) ≡ answered (choose t (is (record { bytes = bytesOf size (ipv6 h c); sum = sumIn false 0 0 (ipv6 h c) })) (refused 10)) room
+              → out ≡ written (choose t (is (record { bytes = bytesOf size (ipv6 h c); sum = sumIn false 0 0 (ipv6 h c) })) (refused 10)) room
+          put-all c k r b false v w = not-refused _ 10 (sym w)
+          put-all c k r b true v w = fits (leb (length (bytesOf size (ipv6 h c))) (length room)) refl w
+            where
+              d : List ℕ
+              d = fullBytes (totalOf size len) 0 (ipv6 h c)
 
-    pub measured-good : len ≤ t → is (record { len = len; sum = u }) ≡ measured (headed ctx size h s at)
-    measured-good k = rw (sized-good k, length-whole) refl
+              fits : (t : Bool) → leb (length (bytesOf size (ipv6 h c))) (length room) ≡ t → _≡_ {A = Answer Measure} (is (record { len = len; sum = u })) (choose t (is (record { len = length (bytesOf size (ipv6 h c)); sum = sumIn false 0 0 (ipv6 h c) })) (refused 7)) → out ≡ over (length (bytesOf size (ipv6 h c))) (bytesOf size (ipv6 h c)) room
+              fits false i j = not-refused _ 7 (sym j)
+              fits true i j =
+                  let whole : length (bytesOf size (ipv6 h c)) ≡ sizeOf (ipv6 h c) = length-bytes size (ipv6 h c) in
+                  let same = value-is _ _ j in
+                  let len-is : len ≡ length (bytesOf size (ipv6 h c)) = ap (λ v. v .len) same in
+                  let sum-is : u ≡ sumIn false 0 0 (ipv6 h c) = ap (λ v. v .sum) same in
+                  let size-is : len ≡ sizeOf (ipv6 h c) = len-is ∙ whole in
+                  let long : length d ≡ len = length-full (totalOf size len) 0 (ipv6 h c) ∙ sym size-is in
+                  let room-is : length (bytesOf size (ipv6 h c)) ≤ length room = leb-true _ _ i in
+                  let number : x ≡ headNumber c = f ∙ number-read (h .«next_header») 7 ctx (within h) s at c k r in
+                  let a2 : m ≡ put 0 (ipv6With h (headNumber c) (totalOf size len - 40)) n = a ∙ ap (λ v. put 0 (ipv6With h v z) n) number ∙ ap (λ v. put 0 (ipv6With h (headNumber c) v) n) e in
+                  let m-is : m ≡ d ++ drop len room =
+                  before room n m 0 40 (ipv6With h (headNumber c) (totalOf size len - 40)) (fullBytes (totalOf size len) 40 c) (length-ipv6 h (headNumber c) (totalOf size len - 40)) b a2
+                  ∙ put-front d room (omega (arith, long, len-is, room-is))
+                  ∙ ap (λ v. d ++ drop v room) long in
+                  q
+                  ∙ ap (finishedIn size u len) m-is
+                  ∙ finished-front size u len d (drop len room) long
+                  ∙ ap (λ v. finished size v d ++ drop len room) sum-is
+                  ∙ ap (λ v. finished size (sumIn false 0 0 (ipv6 h c)) (fullBytes (totalOf size v) 0 (ipv6 h c)) ++ drop len room) size-is
+                  ∙ sym (over-is (bytesOf size (ipv6 h c)) room len (sym len-is) (omega (arith, len-is, room-is)))
 
-    pub answered-short : len ≤ t → (room : List ℕ) → length room < len → refused 7 ≡ answered (headed ctx size h s at) room
-    answered-short k room g = rw (sized-good k, length-whole, lt-leb len (length room) g) refl
-
-    pub answered-good : len ≤ t → (room : List ℕ) → len ≤ length room → is (record { len = len; sum = u }) ≡ answered (headed ctx size h s at) room
-    answered-good k room g = rw (sized-good k, length-whole, le-leb len (length room) g) refl
-
-    pub written-short : len ≤ t → (room : List ℕ) → length room < len → room ≡ written (headed ctx size h s at) room
-    written-short k room g = rw (sized-good k, length-whole, lt-leb len (length room) g) refl
-
-    -- the room after the outer header, m, after the chain, n, and after the checksum, out
-    pub written-good : len ≤ t → (room m n out : List ℕ) (x : ℕ) (y : Walked) → len ≤ length room → x ≡ nextNumber (h .«next_header») s at → m ≡ put 0 (ipv6With h x (t - 40)) room → Walks y (outer h t) behindOuter m n → out ≡ finishedIn size u len n → out ≡ written (headed ctx size h s at) room
-    unfolding bytesOf fullBytes
-    written-good k room m n out x y g e a W q =
-        rw (sized-good k)
-        (q
-        ∙ ap (finishedIn size u len) n-is
-        ∙ finished-front size u len d (drop len room) length-d
-        ∙ ap (λ z. finished size z d ++ drop len room) sum-whole
-        ∙ ap (λ z. finished size (sumIn false 0 0 whole) (fullBytes z 0 whole) ++ drop len room) total-is
-        ∙ sym (over-is (bytesOf size whole) room len length-whole g))
-      where
-        d : List ℕ
-        d = fullBytes t 0 whole
-
-        length-d : length d ≡ len
-        length-d = length-full t 0 whole ∙ sym size-is
-
-        number : x ≡ headNumber (E .found)
-        number = e ∙ number-read (h .«next_header») 7 ctx (within h) s at (E .found) (E .place) (E .is-read)
-
-        laid : n ≡ put 40 (fullBytes t 40 (E .found)) m
-        laid = subst (λ z. Lays (outer h t) z m n) (E .is-read) (W .bytes)
-
-        n-is : n ≡ d ++ drop len room
-        n-is =
-            let f : length d ≤ length room = rw length-d g in
-            more room m n 0 40 (ipv6With h (headNumber (E .found)) (t - 40)) (fullBytes t 40 (E .found)) (length-ipv6 h (headNumber (E .found)) (t - 40)) (a ∙ ap (λ z. put 0 (ipv6With h z (t - 40)) room) number) laid
-            ∙ put-front d room f
-            ∙ ap (λ z. d ++ drop z room) length-d
+          go : (r : Read Chain) → behindOuter ≡ r → Lays (Walked.End len u) (outer h size) r room n → is (record { len = len; sum = u }) ≡ answered (andThen r (λ p. sized size (ipv6 h (p .value)))) room → out ≡ written (andThen r (λ p. sized size (ipv6 h (p .value)))) room
+          go (refused k) r b w = not-refused _ k (sym w)
+          go (is p) r b w = put-all (p .value) (p .next) r b (leb (sizeOf (ipv6 h (p .value))) (totalOf size (sizeOf (ipv6 h (p .value))))) refl w
 
 -- ---- the frame as a whole
 join-go : (size : WordField) (h : Repr) (m : Read Chain) → andThen (andThen m (λ q. got (ipv6 h (q .value)) (q .next))) (λ p. sized size (p .value)) ≡ andThen m (λ p. sized size (ipv6 h (p .value)))

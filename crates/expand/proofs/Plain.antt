@@ -24,9 +24,9 @@ use Rattle.sixlowpan.specs.declared.nhc.NhcPacket.{NhcPacket}
 use Rattle.sixlowpan.specs.declared.nhc.NhcPacket.the-variants.{ExtHeader, UdpHeader}
 use Rattle.sixlowpan.specs.declared.nhc.UdpNhcRepr.{UdpNhcRepr}
 use Rattle.expand.specs.Full.{ipv6With, udpFull}
-use Rattle.expand.specs.Chain.{Chain, rest, udpThen, ipv6, Link, udpLink, within, behindNext, headerThen, udpStep, linkOf, link, udpEnd, onward, chain, chained, headNumber, sizeOf, fullBytes, sumIn}
+use Rattle.expand.specs.Chain.{Chain, rest, udpThen, ipv6, Link, udpLink, within, behindNext, headerThen, udpStep, linkOf, link, udpEnd, onward, chain, chained, headNumber, sizeOf, fullBytes, sumIn, totalOf}
 use Rattle.expand.specs.Expand as Expand
-use Rattle.expand.specs.Expand.{Expansion, totalOf, finished, expansion}
+use Rattle.expand.specs.Expand.{Expansion, finished, expansion}
 use Rattle.expand.specs.Plain as Plain
 use Rattle.expand.specs.Plain.{UdpField, Headers, transport, byNext, headers, plain, lengthOf, plainly}
 

@@ -29,8 +29,8 @@ use Rattle.sixlowpan.specs.declared.nhc.UdpNhcRepr.{UdpNhcRepr}
 use Rattle.expand.specs.Full.{isAbsent, classOf, frontWith, ipv6With, udpFull}
 use Rattle.expand.specs.Sum.{checksumAt, summedAt, wasElided, stands, summedBy}
 use Rattle.expand.specs.Rfc8200.{byteAt, wordAt, isIpv6, isExtension, extSize, hasExtension, isZeros, isPadding, isUdp, Last, endsIn, reads, isDatagram}
-use Rattle.expand.specs.Chain.{Chain, rest, udpThen, extension, ipv6, Link, udpLink, extLink, innerLink, Around, innerByte, extKind, idAt, udpStep, linkOf, link, within, past, inside, behindNext, headerThen, udpEnd, onward, chain, chained, headNumber, pad, fullSize, extFull, sizeOf, fullBytes, sumFor, sumIn, numbersOf, lastOf}
-use Rattle.expand.specs.Expand.{Expansion, totalOf, bytesOf, expansion}
+use Rattle.expand.specs.Chain.{Chain, rest, udpThen, extension, ipv6, Link, udpLink, extLink, innerLink, Around, innerByte, extKind, idAt, udpStep, linkOf, link, within, past, inside, behindNext, headerThen, udpEnd, onward, chain, chained, headNumber, pad, fullSize, extFull, sizeOf, fullBytes, sumFor, sumIn, numbersOf, lastOf, totalOf}
+use Rattle.expand.specs.Expand.{Expansion, bytesOf, expansion}
 use Rattle.expand.proofs.Inverting.{invert, got-value}
 use Rattle.expand.proofs.FullLaws.{length-ipv6, length-udp, length-ext}
 use Rattle.expand.proofs.ChainLaws.{Wants, link-steps, linkNumber, body-number, chain-is}

@@ -139,5 +139,5 @@ sum-carried t i o c h p q = rw (h, sym p ∙ q) refl
 pub ruleset sums = (sum-routed, sum-elided, sum-carried)
 
 pub past-told : (w : Way) (n len z : ℕ) (t : Bool) → t ≡ (eqb n 43 || w .routed) → z ≡ fullSize len
-    → _≡_ {A = Way} (record { src = w .src; dst = w .dst; routed = t; left = w .left - 1; ip = w .ip; at = w .at + z; total = w .total }) (passed n len w)
+    → _≡_ {A = Way} (record { src = w .src; dst = w .dst; routed = t; left = w .left - 1; ip = w .ip; at = w .at + z; size = w .size }) (passed n len w)
 past-told w n len z t p q = rw (p, q) refl

@@ -4,7 +4,8 @@ use mathlib.Core.List.{List}
 use mathlib.Core.Path.{_≡_, refl, sym, ap, _∙_}
 use Rattle.octets.specs.Read.{Answer}
 use Rattle.octets.proofs.Unique.{Injective, back, one, unique, refusal-back}
-use Rattle.expand.specs.Expand.{Expansion, Measure, ofExpanded, answered, written}
+use Rattle.expand.specs.Expand.{Expansion, ofExpanded, answered, written}
+use Rattle.expand.specs.Chain.{Measure}
 use Rattle.expand.specs.declared.datagram.Expanded.{Expanded}
 
 pub expanded-one : Injective ofExpanded

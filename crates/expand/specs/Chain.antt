@@ -34,6 +34,7 @@ use Rattle.expand.specs.declared.checksum.UdpSum.{UdpSum}
 use Rattle.expand.specs.declared.chain.Step.{Step}
 use Rattle.expand.specs.declared.chain.Way.{Way}
 use Rattle.expand.specs.declared.chain.Walked.{Walked}
+use Rattle.expand.specs.declared.chain.TotalAnswer.{TotalAnswer}
 
 -- ---- a chain: headers, and then the rest of the frame
 -- rest: the payload, whose number stood inline; udpThen: a UDP header and its data; extension: the number of an extension header and what follows
@@ -275,36 +276,55 @@ passed n len w = record {
   left = w .left - 1;
   ip = w .ip;
   at = w .at + fullSize len;
-  total = w .total;
+  size = w .size;
 }
 
 abbrev pub entered : Repr → Way → Way
-entered h w = record { src = h .«src_addr»; dst = h .«dst_addr»; routed = false; left = w .left; ip = w .at; at = w .at + 40; total = w .total }
+entered h w = record { src = h .«src_addr»; dst = h .«dst_addr»; routed = false; left = w .left; ip = w .at; at = w .at + 40; size = w .size }
 
--- behind the outer IPv6 header of a datagram of t bytes, where seven headers more may come
-abbrev pub outer : Repr → ℕ → Way
-outer h t = record { src = h .«src_addr»; dst = h .«dst_addr»; routed = false; left = 7; ip = 0; at = 40; total = t }
+-- behind the outer IPv6 header, where seven headers more may come; size: that of the whole datagram where the frame is its first part
+abbrev pub outer : Repr → WordField → Way
+outer h size = record { src = h .«src_addr»; dst = h .«dst_addr»; routed = false; left = 7; ip = 0; at = 40; size = size }
 
 abbrev pub fewer : Way → Way
-fewer w = record { src = w .src; dst = w .dst; routed = w .routed; left = w .left - 1; ip = w .ip; at = w .at; total = w .total }
+fewer w = record { src = w .src; dst = w .dst; routed = w .routed; left = w .left - 1; ip = w .ip; at = w .at; size = w .size }
 
--- where a chain ends in the datagram, and what is to be remembered of its checksum
-pub record Ended : Type 0 where
+-- how long a datagram gets, or its first part, and what is to be remembered of its checksum
+pub record Measure : Type 0 where
   pub len : ℕ
   pub sum : UdpSum
 
-abbrev pub ofWalked : Walked → Answer Ended
+-- the length of the whole datagram: that of n bytes, or in a first part its size
+abbrev pub totalOf : WordField → ℕ → ℕ
+totalOf WordField.None n = n
+totalOf (WordField.Some size) n = size
+
+-- once all headers are read, so that the datagram, or its first part, is known to have e bytes: 10 where it ends beyond its size, then 7
+-- where the room has too few, n
+unfoldable pub totalIn : WordField → ℕ → ℕ → Answer ℕ
+totalIn size e n = choose (leb e (totalOf size e)) (choose (leb e n) (is (totalOf size e)) (refused 7)) (refused 10)
+
+abbrev pub ofTotal : TotalAnswer → Answer ℕ
+ofTotal (TotalAnswer.Is t) = is t
+ofTotal (TotalAnswer.Refused e) = refused (Refusal.numberOf e)
+
+abbrev pub ofWalked : Walked → Answer Measure
 ofWalked (Walked.End n m) = is (record { len = n; sum = m })
 ofWalked (Walked.Refused e) = refused (Refusal.numberOf e)
 
-abbrev pub endOf : Way → Read Chain → Answer Ended
-endOf w m = andThen m (λ p. is (record { len = w .at + sizeOf (p .value); sum = sumIn (w .routed) (w .ip) (w .at) (p .value) }))
+-- what the chain c comes to in a room of n bytes
+abbrev pub ending : Way → ℕ → Chain → Answer Measure
+ending w n c = andThen (totalIn (w .size) (w .at + sizeOf c) n) (λ t. is (record { len = w .at + sizeOf c; sum = sumIn (w .routed) (w .ip) (w .at) c }))
 
--- the room l, l₀ before: the bytes of the chain are put at their place
-abbrev pub Lays : Way → Read Chain → List ℕ → List ℕ → Type 0
-Lays w (is p) l₀ l = l ≡ put (w .at) (fullBytes (w .total) (w .at) (p .value)) l₀
-Lays w (refused n) l₀ l = Unit {0}
+abbrev pub endOf : Way → ℕ → Read Chain → Answer Measure
+endOf w n m = andThen m (λ p. ending w n (p .value))
+
+-- the room l, l₀ before: the bytes of the chain are put at their place, or nothing is
+abbrev pub Lays : Walked → Way → Read Chain → List ℕ → List ℕ → Type 0
+Lays (Walked.End e u) w (is p) l₀ l = l ≡ put (w .at) (fullBytes (totalOf (w .size) e) (w .at) (p .value)) l₀
+Lays (Walked.End e u) w (refused n) l₀ l = Unit {0}
+Lays (Walked.Refused e) w m l₀ l = l ≡ l₀
 
 pub record Walks (r : Walked) (w : Way) (m : Read Chain) (l₀ l : List ℕ) : Type 0 where
-  pub answer : ofWalked r ≡ endOf w m
-  pub bytes : Lays w m l₀ l
+  pub answer : ofWalked r ≡ endOf w (length l₀) m
+  pub bytes : Lays r w m l₀ l

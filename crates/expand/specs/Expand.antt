@@ -11,7 +11,7 @@ use Rattle.octets.specs.declared.field.WordField.{WordField}
 use Rattle.ieee802154.specs.declared.addr.AddressField.{AddressField}
 use Rattle.expand.specs.Sum.{summedBy, summedIn}
 use Rattle.iphc.specs.declared.header.Repr.{Repr}
-use Rattle.expand.specs.Chain.{Chain, ipv6, within, behindNext, chain, chained, sizeOf, fullBytes, sumIn}
+use Rattle.expand.specs.Chain.{Chain, ipv6, within, behindNext, chain, chained, sizeOf, fullBytes, sumIn, totalOf, Measure}
 use Rattle.expand.specs.declared.checksum.UdpSum.{UdpSum}
 use Rattle.expand.specs.declared.datagram.Expanded.{Expanded}
 
@@ -21,11 +21,6 @@ pub record Expansion : Type 0 where
   pub sum : UdpSum
 
 -- ---- the bytes
--- the length of the whole datagram: that of n bytes, or in a first part its size
-abbrev pub totalOf : WordField → ℕ → ℕ
-totalOf WordField.None n = n
-totalOf (WordField.Some size) n = size
-
 -- an elided checksum is computed, but not in a first part, where it stays 0
 abbrev pub finished : WordField → UdpSum → List ℕ → List ℕ
 finished WordField.None m d = summedBy m d
@@ -57,10 +52,6 @@ unfoldable pub headed : List ℕ → WordField → Repr → List ℕ → ℕ →
 headed ctx size h s at = andThen (behindNext (h .«next_header») (chain 7 ctx (within h)) s at) (λ p. sized size (ipv6 h (p .value)))
 
 -- ---- the answers
-pub record Measure : Type 0 where
-  pub len : ℕ
-  pub sum : UdpSum
-
 abbrev pub ofExpanded : Expanded → Answer Measure
 ofExpanded (Expanded.Datagram n m) = is (record { len = n; sum = m })
 ofExpanded (Expanded.Refused e) = refused (numberOf e)

@@ -19,7 +19,8 @@ use Rattle.sixlowpan.specs.declared.nhc.NhcPacket.the-variants.{ExtHeader, UdpH
 use Rattle.sixlowpan.specs.declared.nhc.UdpNhcRepr.{UdpNhcRepr}
 use Rattle.expand.specs.Sum.{noSum, elidedAt, carriedAt}
 use Rattle.expand.specs.Full.{ipv6With, udpFull, isAbsent}
-use Rattle.expand.specs.Expand.{Expansion, totalOf, finished}
+use Rattle.expand.specs.Expand.{Expansion, finished}
+use Rattle.expand.specs.Chain.{totalOf}
 use Rattle.expand.specs.declared.checksum.UdpSum.{UdpSum}
 
 -- a UDP header, where it is compressed

@@ -1,5 +1,6 @@
 // The compressed headers behind an IPv6 header, and what each becomes (RFC 6282, 4.2; RFC 8200, 4): header reads chain,
-// chain reads header, each step with fewer bytes left.
+// chain reads header, each step with fewer bytes left. Nothing is written before the last header is read and all that
+// is refused has been refused; then each header is written, the last one first.
 ghost use mathlib.Core.Path.{_≡_};
 ghost use mathlib.Core.Bool.{_&&_, _||_};
 ghost use Prim.Native.Nat.{ℕ, _≤_, _<_, _+_, _-_, _*_};
@@ -10,7 +11,8 @@ ghost use Rattle.octets.specs.Write.{put};
 ghost use Rattle.expand.specs.Full.{isAbsent};
 ghost use Rattle.expand.specs.Chain.{fullNumber, isPadded, badLength, fullSize, idAt, extKind, extData, extBody};
 ghost use Rattle.expand.specs.Chain.{innerByte, udpStep, link, inside, headerThen, behindNext, udpEnd, chain};
-ghost use Rattle.expand.specs.Chain.{nextNumber, sumFor, passed, entered, fewer, ofLink, around, rest, Walks};
+ghost use Rattle.expand.specs.Chain.{nextNumber, sumFor, passed, entered, fewer, ofLink, around, rest, totalOf, totalIn, ofTotal};
+ghost use Rattle.expand.specs.Chain.{Walks};
 use super::checksum::UdpSum;
 use super::copy::left;
 use super::copy::put_part;
@@ -52,8 +54,8 @@ pub enum Step {
 }
 
 // How far an expansion has come: the addresses of the IPv6 header just outside, whether a routing header came since,
-// how many headers may still come, and in the datagram, whose length is `total`, where that IPv6 header stands and
-// where the next header goes.
+// how many headers may still come, and in the datagram where that IPv6 header stands and where the next header goes;
+// `size` is the size of the whole datagram where the frame is its first part.
 pub struct Way {
     pub src: Ipv6Addr,
     pub dst: Ipv6Addr,
@@ -61,12 +63,18 @@ pub struct Way {
     pub left: u8,
     pub ip: u16,
     pub at: u16,
-    pub total: u16,
+    pub size: WordField,
 }
 
 // Where the datagram ends, or its first part, and what is to be remembered of its checksum.
 pub enum Walked {
     End { len: u16, sum: UdpSum },
+    Refused(Refusal),
+}
+
+// The length of the whole datagram, or why it is not written.
+pub enum TotalAnswer {
+    Is(u16),
     Refused(Refusal),
 }
 
@@ -239,7 +247,7 @@ fn inside(a: Ipv6Addr) -> AddressField
 }
 
 // What a length field says: all that follows.
-fn less(total: u16, at: u16) -> u16
+pub(crate) fn less(total: u16, at: u16) -> u16
     ensures { λ r. ⌜ r ≡ total - at ⌝ }
 {
     if total < at { 0 } else { total - at }
@@ -261,6 +269,30 @@ fn span(from: usize, to: usize) -> usize
     if to < from { 0 } else { to - from }
 }
 
+// The length of the whole datagram.
+pub(crate) fn total_of(size: WordField, n: u16) -> u16
+    ensures { λ r. ⌜ r ≡ totalOf size n ⌝ }
+{
+    match size {
+        WordField::None => n,
+        WordField::Some(total) => total,
+    }
+}
+
+// All headers are read, and the datagram or its first part has n bytes: the last refusals, 10 and 7.
+fn total_in(size: WordField, n: u16, room: usize) -> TotalAnswer
+    ensures { λ r. ⌜ ofTotal r ≡ totalIn size n room ⌝ }
+{
+    let total = total_of(size, n);
+    if total < n {
+        return TotalAnswer::Refused(Refusal::BadPart);
+    }
+    if room < (n as usize) {
+        return TotalAnswer::Refused(Refusal::NoRoom);
+    }
+    TotalAnswer::Is(total)
+}
+
 // The payload, to the end of the frame.
 fn end_rest(frame: &[u8], at: usize, w: Way, out: &mut [u8]) -> Walked
     requires { ⌜ (w .at ≤ 447) × (length (now frame) ≤ 127) ⌝ }
@@ -268,11 +300,15 @@ fn end_rest(frame: &[u8], at: usize, w: Way, out: &mut [u8]) -> Walked
         (now (out .exit))) ⌝ }
 {
     let o = w.at as usize;
-    put_part(out, o, frame, at, frame.len());
-    let sum = UdpSum::NONE;
-    Walked::End {
-        len: w.at + (left(frame, at) as u16),
-        sum,
+    let size = w.size;
+    let len = w.at + (left(frame, at) as u16);
+    match total_in(size, len, out.len()) {
+        TotalAnswer::Is(_) => {
+            put_part(out, o, frame, at, frame.len());
+            let sum = UdpSum::NONE;
+            Walked::End { len, sum }
+        }
+        TotalAnswer::Refused(e) => Walked::Refused(e),
     }
 }
 
@@ -321,12 +357,16 @@ fn end_udp(frame: &[u8], at: usize, h: UdpNhcRepr, w: Way, out: &mut [u8]) -> Wa
         return Walked::Refused(Refusal::NotExpanded);
     }
     let o = w.at as usize;
-    put_udp(out, o, h, less(w.total, w.at));
-    put_part(out, o + 8, frame, at, frame.len());
-    let sum = sum_for(w, checksum);
-    Walked::End {
-        len: w.at + 8 + (left(frame, at) as u16),
-        sum,
+    let size = w.size;
+    let len = w.at + 8 + (left(frame, at) as u16);
+    match total_in(size, len, out.len()) {
+        TotalAnswer::Is(total) => {
+            put_udp(out, o, h, less(total, w.at));
+            put_part(out, o + 8, frame, at, frame.len());
+            let sum = sum_for(w, checksum);
+            Walked::End { len, sum }
+        }
+        TotalAnswer::Refused(e) => Walked::Refused(e),
     }
 }
 
@@ -350,6 +390,7 @@ impl Way {
     {
         let src = ip.src_addr;
         let dst = ip.dst_addr;
+        let size = self.size;
         Way {
             src,
             dst,
@@ -357,7 +398,7 @@ impl Way {
             left: self.left,
             ip: self.at,
             at: self.at + 40,
-            total: self.total,
+            size,
         }
     }
 
@@ -394,14 +435,21 @@ pub(crate) fn header(frame: &[u8], c: Cursor, contexts: &[u8], w: Way, out: &mut
         Parsed::Header(ip, at) => {
             let next = ip.next_header;
             let o = w.at;
-            put_ipv6(
-                out,
-                o as usize,
-                ip,
-                next_number(frame, next, at),
-                less(w.total, o + 40),
-            );
-            chain(frame, next, Cursor { at }, contexts, w.within(ip), out)
+            let size = w.size;
+            match chain(frame, next, Cursor { at }, contexts, w.within(ip), out) {
+                Walked::End { len, sum } => {
+                    let number = next_number(frame, next, at);
+                    put_ipv6(
+                        out,
+                        o as usize,
+                        ip,
+                        number,
+                        less(total_of(size, len), o + 40),
+                    );
+                    Walked::End { len, sum }
+                }
+                Walked::Refused(e) => Walked::Refused(e),
+            }
         }
         Parsed::Refused(e) => Walked::Refused(e),
     }
@@ -431,23 +479,28 @@ pub(crate) fn chain(
                 from,
                 to,
             } => {
-                let len = span(from, to);
-                put_extension(
-                    out,
-                    w.at as usize,
-                    next_number(frame, then, to),
-                    frame,
-                    from,
-                    len,
-                );
-                chain(
+                let n = span(from, to);
+                match chain(
                     frame,
                     then,
                     Cursor { at: to },
                     contexts,
-                    w.past(number, len),
+                    w.past(number, n),
                     out,
-                )
+                ) {
+                    Walked::End { len, sum } => {
+                        put_extension(
+                            out,
+                            w.at as usize,
+                            next_number(frame, then, to),
+                            frame,
+                            from,
+                            n,
+                        );
+                        Walked::End { len, sum }
+                    }
+                    Walked::Refused(e) => Walked::Refused(e),
+                }
             }
             Step::Inner(n) => header(frame, Cursor { at: n }, contexts, w.fewer(), out),
             Step::Refused(e) => Walked::Refused(e),

@@ -3,13 +3,14 @@ ghost use mathlib.Core.Path.{_≡_};
 ghost use Prim.Native.Nat.{_≤_, _+_};
 ghost use lib.ListN.{length};
 ghost use Rattle.expand.specs.Sum.{summedIn};
-ghost use Rattle.expand.specs.Chain.{chain, behindNext, within, outer, Walks};
-ghost use Rattle.expand.specs.Expand.{ofExpanded, totalOf, finishedIn, headed, expansion, measured, answered};
+ghost use Rattle.expand.specs.Expand.{ofExpanded, finishedIn, headed, expansion, measured, answered};
 ghost use Rattle.expand.specs.Expand.{written};
 use super::chain::Walked;
 use super::chain::Way;
 use super::chain::chain;
+use super::chain::less;
 use super::chain::next_number;
+use super::chain::total_of;
 use super::checksum::UdpSum;
 use super::checksum::put_checksum;
 use super::ip::put_ipv6;
@@ -31,16 +32,6 @@ pub enum Expanded {
     Refused(Refusal),
 }
 
-// The length of the whole datagram.
-fn total_of(size: WordField, n: u16) -> u16
-    ensures { λ r. ⌜ r ≡ totalOf size n ⌝ }
-{
-    match size {
-        WordField::None => n,
-        WordField::Some(total) => total,
-    }
-}
-
 // An elided checksum is computed where the datagram is not in parts.
 fn put_elided(buf: &mut [u8], size: WordField, n: usize, m: UdpSum)
     ensures { λ _. ⌜ now (buf .exit) ≡ finishedIn size m n (now (buf .entry)) ⌝ }
@@ -51,47 +42,7 @@ fn put_elided(buf: &mut [u8], size: WordField, n: usize, m: UdpSum)
     }
 }
 
-// What follows the outer IPv6 header, in a datagram of a length: at most seven headers more.
-fn walk(frame: &[u8], ip: Repr, at: usize, contexts: &[u8], total: u16, out: &mut [u8]) -> Walked
-    requires { ⌜ length (now frame) ≤ 127 ⌝ }
-    ensures { λ r. ⌜ Walks r (outer ip total) (behindNext (ip .«next_header»)
-        (chain 7 (now (contexts .entry)) (within ip)) (now (frame .entry)) at) (now (out .entry)) (now (out .exit)) ⌝ }
-{
-    let next = ip.next_header;
-    let src = ip.src_addr;
-    let dst = ip.dst_addr;
-    let w = Way {
-        src,
-        dst,
-        routed: false,
-        left: 7,
-        ip: 0,
-        at: 40,
-        total,
-    };
-    chain(frame, next, Cursor { at }, contexts, w, out)
-}
-
-// Measures the datagram whose IPv6 header was read. Nothing is written: in one byte there is no room for what follows
-// that header.
-fn measure_headed(frame: &[u8], ip: Repr, at: usize, contexts: &[u8], size: WordField) -> Expanded
-    requires { ⌜ length (now frame) ≤ 127 ⌝ }
-    ensures { λ r. ⌜ ofExpanded r ≡ measured (headed (now (contexts .entry)) size ip (now (frame .entry)) at) ⌝ }
-{
-    let mut nowhere = [0u8; 1];
-    match walk(frame, ip, at, contexts, 0, &mut nowhere) {
-        Walked::End { len, sum } => {
-            if total_of(size, len) < len {
-                return Expanded::Refused(Refusal::BadPart);
-            }
-            let len = len as usize;
-            Expanded::Datagram { len, sum }
-        }
-        Walked::Refused(e) => Expanded::Refused(e),
-    }
-}
-
-// Writes the datagram whose IPv6 header was read.
+// Writes the datagram whose IPv6 header was read: at most seven headers more, and then that one.
 fn expand_headed(
     frame: &[u8],
     ip: Repr,
@@ -106,47 +57,27 @@ fn expand_headed(
         × (now (out .exit) ≡ written (headed (now (contexts .entry)) size ip (now (frame .entry)) at)
         (now (out .entry))) ⌝ }
 {
-    let mut nowhere = [0u8; 1];
-    match walk(frame, ip, at, contexts, 0, &mut nowhere) {
+    let next = ip.next_header;
+    let src = ip.src_addr;
+    let dst = ip.dst_addr;
+    let w = Way {
+        src,
+        dst,
+        routed: false,
+        left: 7,
+        ip: 0,
+        at: 40,
+        size,
+    };
+    match chain(frame, next, Cursor { at }, contexts, w, out) {
         Walked::End { len, sum } => {
-            let total = total_of(size, len);
-            if total < len {
-                return Expanded::Refused(Refusal::BadPart);
-            }
+            let number = next_number(frame, next, at);
+            put_ipv6(out, 0, ip, number, less(total_of(size, len), 40));
             let len = len as usize;
-            if out.len() < len {
-                return Expanded::Refused(Refusal::NoRoom);
-            }
-            let next = ip.next_header;
-            put_ipv6(out, 0, ip, next_number(frame, next, at), total - 40);
-            walk(frame, ip, at, contexts, total, out);
             put_elided(out, size, len, sum);
             Expanded::Datagram { len, sum }
         }
         Walked::Refused(e) => Expanded::Refused(e),
-    }
-}
-
-// What `expand` would answer in room enough. The compressed header stands at the place c of the frame; `size` is the
-// size of the whole datagram where the frame is its first part. The link-layer addresses are those of the frame; the
-// contexts are flat bytes, 8 for each identifier.
-pub fn measure(
-    frame: &[u8],
-    c: Cursor,
-    ll_src: AddressField,
-    ll_dst: AddressField,
-    contexts: &[u8],
-    size: WordField,
-) -> Expanded
-    ensures { λ r. ⌜ ofExpanded r ≡ measured (expansion (now (contexts .entry)) «ll_src» «ll_dst» size
-        (now (frame .entry)) (c .at)) ⌝ }
-{
-    if 127 < frame.len() {
-        return Expanded::Refused(Refusal::BadLength);
-    }
-    match Repr::read(frame, c, ll_src, ll_dst, contexts) {
-        Parsed::Header(ip, at) => measure_headed(frame, ip, at, contexts, size),
-        Parsed::Refused(e) => Expanded::Refused(e),
     }
 }
 
@@ -172,4 +103,22 @@ pub fn expand(
         Parsed::Header(ip, at) => expand_headed(frame, ip, at, contexts, size, out),
         Parsed::Refused(e) => Expanded::Refused(e),
     }
+}
+
+// What `expand` would answer in room enough. The compressed header stands at the place c of the frame; `size` is the
+// size of the whole datagram where the frame is its first part. The link-layer addresses are those of the frame; the
+// contexts are flat bytes, 8 for each identifier.
+pub fn measure(
+    frame: &[u8],
+    c: Cursor,
+    ll_src: AddressField,
+    ll_dst: AddressField,
+    contexts: &[u8],
+    size: WordField,
+) -> Expanded
+    ensures { λ r. ⌜ ofExpanded r ≡ measured (expansion (now (contexts .entry)) «ll_src» «ll_dst» size
+        (now (frame .entry)) (c .at)) ⌝ }
+{
+    let mut room = [0u8; LONGEST];
+    expand(frame, c, ll_src, ll_dst, contexts, size, &mut room)
 }

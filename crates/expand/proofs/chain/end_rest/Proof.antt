@@ -1,4 +1,4 @@
-use Rattle.expand.proofs.ChainLaws.{walks-rest}
+use Rattle.expand.proofs.ChainLaws.{walks-rest, walks-rest-no}
 use native.Mathlib.Omega.{arith}
 use lib.ListN.{length-drop}
 use denote.Ref.{now}
@@ -9,25 +9,48 @@ use Rattle.expand.proofs.chain.end_rest.Tie as tie
 cast-o : tie.Need-cast-o
 cast-o c = search needs
 
-put-part-requires : tie.Need-put-part-requires
-put-part-requires c κs = search needs
-
 left-requires : tie.Need-left-requires
 left-requires c κs = search needs
 
-cast-t11 : tie.Need-cast-t11
-cast-t11 c = omega (arith, c .left .ensures, length-drop (c .before .before .before .before .before .before .before .before .args .at) (now (c .before .before .before .before .before .before .before .before .args .frame)), c .before .before .before .before .before .before .before .before .pre .1)
+cast-len : tie.Need-cast-len
+cast-len c = omega (arith, c .left .ensures, length-drop (c .before .before .before .before .args .at) (now (c .before .before .before .before .args .frame)), c .before .before .before .before .pre .1)
 
-add-t12 : tie.Need-add-t12
-add-t12 c = omega (arith, c .before .left .ensures, length-drop (c .before .before .before .before .before .before .before .before .before .args .at) (now (c .before .before .before .before .before .before .before .before .before .args .frame)), c .before .before .before .before .before .before .before .before .before .pre .0, c .before .before .before .before .before .before .before .before .before .pre .1)
+add-len : tie.Need-add-len
+add-len c = omega (arith, c .before .left .ensures, length-drop (c .before .before .before .before .before .args .at) (now (c .before .before .before .before .before .args .frame)), c .before .before .before .before .before .pre .0, c .before .before .before .before .before .pre .1)
+
+total-in-requires : tie.Need-total-in-requires
+total-in-requires c κs = search needs
+
+enum-told : tie.Need-enum-told
+enum-told c = search needs
+
+put-part-requires : tie.Need-put-part-requires
+put-part-requires c κs = search needs
+
+enum-known-e : tie.Need-enum-known-e
+enum-known-e c = search needs
 
 same-length : tie.Need-same-length
 same-length c = search needs
 
 returns : tie.Need-returns
-returns c = walks-rest (c .before .before .before .before .before .before .before .before .before .args .w) (now (c .before .before .before .before .before .before .before .before .before .args .frame)) (now (c .before .before .before .before .before .before .before .before .before .args .out)) _ (c .before .before .before .before .before .before .before .before .before .args .at) _ (c .before .left .ensures) (c .before .before .before .before .put-part .ensures)
+returns c = λ p m. walks-rest (c .before .before .before .before .before .before .before .before .before .before .before .before .args .w) (now (c .before .before .before .before .before .before .before .before .before .before .before .before .args .frame)) (now (c .before .before .before .before .before .before .before .before .before .before .before .before .args .out)) (c .before .before .before .before .before .before .before .before .before .before .before .before .args .at) _ _ (c .before .before .before .before .before .before .before .before .left .ensures) (c .before .before .before .before .before .before .total-in .ensures) p m _ _ (c .before .before .before .before .enum-told .given .1) (c .before .before .put-part .ensures)
+
+returns-2 : tie.Need-returns-2
+returns-2 c = λ p m. walks-rest-no (c .before .before .before .before .before .before .before .before .before .args .w) (now (c .before .before .before .before .before .before .before .before .before .args .frame)) (now (c .before .before .before .before .before .before .before .before .before .args .out)) (c .before .before .before .before .before .before .before .before .before .args .at) _ _ (c .before .before .before .before .before .left .ensures) (c .before .before .before .total-in .ensures) p m _ (c .before .e .given .1)
 
 pub end-rest-spec : {M : Type 1} → statement M
 end-rest-spec =
     tie.close
-    (tie.spec cast-o put-part-requires left-requires cast-t11 add-t12 same-length returns)
+    (tie.spec
+    cast-o
+    left-requires
+    cast-len
+    add-len
+    total-in-requires
+    enum-told
+    put-part-requires
+    enum-known-e
+    same-length
+    returns
+    returns-2)

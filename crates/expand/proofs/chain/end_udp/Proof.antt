@@ -1,4 +1,4 @@
-use Rattle.expand.proofs.ChainLaws.{walks-unknown, walks-udp}
+use Rattle.expand.proofs.ChainLaws.{walks-unknown, walks-udp, walks-udp-no}
 use native.Mathlib.Omega.{arith}
 use lib.ListN.{length-drop}
 use denote.Ref.{now}
@@ -15,6 +15,24 @@ returns c = walks-unknown (c .before .before .before .before .args .w) (c .befor
 cast-o : tie.Need-cast-o
 cast-o c = search needs
 
+add-len : tie.Need-add-len
+add-len c = search needs
+
+left-requires : tie.Need-left-requires
+left-requires c κs = search needs
+
+cast-len : tie.Need-cast-len
+cast-len c = omega (arith, c .left .ensures, length-drop (c .before .before .before .before .before .before .before .args .at) (now (c .before .before .before .before .before .before .before .args .frame)), c .before .before .before .before .before .before .before .pre .1)
+
+add-len-2 : tie.Need-add-len-2
+add-len-2 c = omega (arith, c .left .ensures, length-drop (c .before .before .before .before .before .before .before .args .at) (now (c .before .before .before .before .before .before .before .args .frame)), c .before .before .before .before .before .before .before .pre .0, c .before .before .before .before .before .before .before .pre .1)
+
+total-in-requires : tie.Need-total-in-requires
+total-in-requires c κs = search needs
+
+enum-known-total : tie.Need-enum-known-total
+enum-known-total c = search needs
+
 less-requires : tie.Need-less-requires
 less-requires c κs = search needs
 
@@ -30,23 +48,17 @@ put-part-requires c κs = search needs
 sum-for-requires : tie.Need-sum-for-requires
 sum-for-requires c κs = search needs
 
-add-t14 : tie.Need-add-t14
-add-t14 c = search needs
-
-left-requires : tie.Need-left-requires
-left-requires c κs = search needs
-
-cast-t19 : tie.Need-cast-t19
-cast-t19 c = omega (arith, c .left .ensures, length-drop (c .before .before .before .before .before .before .before .before .before .before .before .before .before .before .before .before .before .args .at) (now (c .before .before .before .before .before .before .before .before .before .before .before .before .before .before .before .before .before .args .frame)), c .before .before .before .before .before .before .before .before .before .before .before .before .before .before .before .before .before .pre .1)
-
-add-t20 : tie.Need-add-t20
-add-t20 c = omega (arith, c .left .ensures, length-drop (c .before .before .before .before .before .before .before .before .before .before .before .before .before .before .before .before .before .args .at) (now (c .before .before .before .before .before .before .before .before .before .before .before .before .before .before .before .before .before .args .frame)), c .before .before .before .before .before .before .before .before .before .before .before .before .before .before .before .before .before .pre .0, c .before .before .before .before .before .before .before .before .before .before .before .before .before .before .before .before .before .pre .1)
+enum-known-e : tie.Need-enum-known-e
+enum-known-e c = search needs
 
 same-length : tie.Need-same-length
 same-length c = search needs
 
 returns-2 : tie.Need-returns-2
-returns-2 c = walks-udp (c .before .before .before .before .before .before .before .before .before .before .before .before .before .before .before .before .before .args .w) (c .before .before .before .before .before .before .before .before .before .before .before .before .before .before .before .before .before .args .h) (now (c .before .before .before .before .before .before .before .before .before .before .before .before .before .before .before .before .before .args .frame)) (now (c .before .before .before .before .before .before .before .before .before .before .before .before .before .before .before .before .before .args .out)) _ _ (c .before .before .before .before .before .before .before .before .before .before .before .before .before .before .before .before .before .args .at) _ _ _ _ (c .before .before .before .before .before .before .before .before .before .before .before .before .before .before .is-unknown .ensures) (c .before .before .before .before .before .before .before .before .before .before .before .before .before .if1 .left) (c .before .before .before .before .before .before .before .before .before .before .less .ensures) (c .before .before .before .before .before .before .before .before .before .put-udp .ensures) (c .before .before .before .before .before .put-part .ensures) (c .before .before .sum-for .ensures) (c .left .ensures)
+returns-2 c = walks-udp (c .before .before .before .before .before .before .before .before .before .before .before .before .before .before .before .before .before .before .before .before .before .args .w) (c .before .before .before .before .before .before .before .before .before .before .before .before .before .before .before .before .before .before .before .before .before .args .h) (now (c .before .before .before .before .before .before .before .before .before .before .before .before .before .before .before .before .before .before .before .before .before .args .frame)) (now (c .before .before .before .before .before .before .before .before .before .before .before .before .before .before .before .before .before .before .before .before .before .args .out)) (c .before .before .before .before .before .before .before .before .before .before .before .before .before .before .before .before .before .before .before .before .before .args .at) _ _ _ (c .before .before .before .before .before .before .before .before .before .before .before .before .before .before .before .before .before .before .is-unknown .ensures) (c .before .before .before .before .before .before .before .before .before .before .before .before .before .before .before .before .before .if1 .left) (c .before .before .before .before .before .before .before .before .before .before .before .before .before .before .left .ensures) (c .before .before .before .before .before .before .before .before .before .before .before .before .before .total-in .ensures) _ _ _ _ _ (c .before .before .before .before .before .before .before .before .before .before .before .total .given .1) (c .before .before .before .before .before .before .before .before .less .ensures) (c .before .before .before .before .before .before .before .put-udp .ensures) (c .before .before .before .put-part .ensures) (c .sum-for .ensures)
+
+returns-3 : tie.Need-returns-3
+returns-3 c = walks-udp-no (c .before .before .before .before .before .before .before .before .before .before .before .args .w) (c .before .before .before .before .before .before .before .before .before .before .before .args .h) (now (c .before .before .before .before .before .before .before .before .before .before .before .args .frame)) (now (c .before .before .before .before .before .before .before .before .before .before .before .args .out)) (c .before .before .before .before .before .before .before .before .before .before .before .args .at) _ _ _ (c .before .before .before .before .before .before .before .before .is-unknown .ensures) (c .before .before .before .before .before .before .before .if1 .left) (c .before .before .before .before .left .ensures) (c .before .before .before .total-in .ensures) _ (c .before .e .given .1)
 
 pub end-udp-spec : {M : Type 1} → statement M
 end-udp-spec =
@@ -55,14 +67,18 @@ end-udp-spec =
     is-unknown-requires
     returns
     cast-o
+    add-len
+    left-requires
+    cast-len
+    add-len-2
+    total-in-requires
+    enum-known-total
     less-requires
     put-udp-requires
     add-put-part
     put-part-requires
     sum-for-requires
-    add-t14
-    left-requires
-    cast-t19
-    add-t20
+    enum-known-e
     same-length
-    returns-2)
+    returns-2
+    returns-3)
