@@ -30,7 +30,8 @@ use Rattle.sixlowpan.specs.declared.frag.Parsed.{Parsed}
 use Rattle.sixlowpan.specs.declared.frag.Units.{Units}
 use Rattle.sixlowpan.specs.declared.frag.Repr.{Repr}
 use Rattle.sixlowpan.specs.declared.frag.Repr.the-variants.{FirstFragment, Fragment}
-use Rattle.expand.specs.Expand.{Expansion, Measure, expansion, ofExpanded, measureOf, answered, written}
+use Rattle.expand.specs.Chain.{Measure}
+use Rattle.expand.specs.Expand.{Expansion, expansion, ofExpanded, measureOf, answered, written}
 use Rattle.expand.specs.Sum.{noSum}
 use Rattle.expand.specs.declared.checksum.UdpSum.{UdpSum}
 use Rattle.expand.specs.declared.datagram.Expanded.{Expanded}
