@@ -3,9 +3,9 @@
  * Link with liblift.a, which `rt staticlib lift` writes to target/staticlib/ after it has proved every function in it. The
  * library calls memcpy and nothing else: it does not allocate, block, print, keep state of its own, or use threads.
  *
- * What is proved, and what is not. Given that a call keeps the rules below, its answer, the table, and every byte that it was
- * lent are, on every frame, exactly what crates/lift/specs/Face.antt defines; it ends, and reads and writes nothing that was
- * not lent. The compiler cannot check the rules themselves across this boundary, so they are yours to keep:
+ * What is proved, and what is not. A call that keeps the rules below ends, and reads and writes nothing that was not lent.
+ * Its answer, the table and every byte that it was lent are, on every frame, exactly what crates/lift/specs/Face.antt
+ * defines. The compiler cannot check the rules themselves across this boundary, so they are yours to keep:
  *
  *   1. A pointer is not null and stands before as many bytes (or numbers) as the length beside it says, readable, and
  *      writable where it is not const. With a length of 0 the pointer is not looked behind, but is still not null.
@@ -94,8 +94,8 @@ static inline uint32_t lift_begin(lift_table *t, const lift_gateway *gateways, l
  *
  *   LIFT_KEPT     0    the frame is a part of a datagram that is not whole yet, or the repeat of one. out is as it was.
  *   LIFT_OUT      L    a datagram of L bytes, 40 to 2,047, stands at the start of out; the rest of out is as it was.
- *   LIFT_REFUSED  R    the frame is refused for reason R, below. out is as it was, to the last byte, and so is mem. No refusal
- *                      but 17 writes a lent byte: then the slot's memory keeps the part just written, and out is untouched.
+ *   LIFT_REFUSED  R    the frame is refused for reason R, below. out is as it was, to the last byte. So is mem, but for 17:
+ *                      then the slot's memory keeps the part just written.
  *
  * A refusal other than 7 and 8 takes the time too, and frees slots that are 60,000 ms old or older; 11 and 17 free their slot.
  * Version 2 of this interface did not test carried checksums, and had no 17. */
@@ -110,8 +110,8 @@ static inline uint32_t lift_kind(uint32_t answer) { return answer >> 16; }
 static inline uint32_t lift_number(uint32_t answer) { return answer & 0xffffu; }
 
 /* The reasons of a refusal: the product's numbers, each with its name. docs/REFUSALS.md says what usually causes each and what
- * to do. lift_receive gives 1 to 13 and 17, lift_begin 14, lift_cut and lift_frames 4, 6, 7, 10 and 16; the others belong to calls that are not in
- * this header. */
+ * to do. lift_receive gives 1 to 13 and 17, lift_begin 14, lift_cut and lift_frames 4, 6, 7, 10 and 16. The others belong to
+ * calls that are not in this header. */
 enum lift_refusal {
   LIFT_ENDED = 1,           /* the bytes end before a needed field */
   LIFT_NOT_THIS_HEADER = 2, /* the leading bits are not this header's: not 6LoWPAN, or a dispatch that is not taken here */
@@ -125,7 +125,7 @@ enum lift_refusal {
   LIFT_BAD_PART = 10,       /* a part that no datagram can have */
   LIFT_CLASH = 11,          /* a part that clashes with bytes already taken; its slot is freed */
   LIFT_NO_SLOT = 12,        /* no slot may be opened for this gateway now */
-  LIFT_NOT_EXPANDED = 13,   /* secured, not a Data frame, or with a header that is not expanded */
+  LIFT_NOT_EXPANDED = 13,   /* secured, with information elements, not a Data frame, or with a header that is not expanded */
   LIFT_BAD_GATEWAYS = 14,   /* a bad list of gateways */
   LIFT_BAD_BLOCK = 15,      /* a bad capture block */
   LIFT_NOT_CUT = 16,        /* a datagram that is not cut into frames */
@@ -189,8 +189,9 @@ lift_len lift_held(const lift_table *t, uint64_t kind, uint64_t value);
  *                      10  k is the number of frames or more (lift_cut only)
  *                      7   out is shorter than the frame (lift_cut only); 127 bytes are always enough
  *
- * Neither call has a state: k can be asked for in any order and again. What is proved: handed to lift_receive in any order, each at
- * least once, as docs/PROMISES.md says, the frames give the same datagram; frames are counted from 0.
+ * Neither call has a state: k, counted from 0, can be asked for in any order and again. What is proved: handed to lift_receive in
+ * any order, each at least once, as docs/PROMISES.md says, the frames give the same datagram. A UDP checksum is sent as it stands,
+ * so have it right: lift_receive tests it where the header went compressed, and refuses a wrong one, or 0, with 17.
  * Rule 2 holds here too: out is apart from datagram and link. */
 #define LIFT_LINK_NUMBERS 8u
 #define LIFT_FRAME_BYTES 127u
