@@ -185,7 +185,8 @@ lift_len lift_held(const lift_table *t, uint64_t kind, uint64_t value);
  *   LIFT_REFUSED  R    out is as it was, to the last byte. In this order:
  *                      4   a datagram of below 40 or over 2,047 bytes, or a limit below 80 or over 127
  *                      6   an address that is none
- *                      16  the version is not 6, the payload length is not that of the bytes, or class or flow label is not 0
+ *                      16  the version is not 6, the payload length is not that of the bytes, or traffic class or flow label
+ *                          is not 0
  *                      10  k is the number of frames or more (lift_cut only)
  *                      7   out is shorter than the frame (lift_cut only); 127 bytes are always enough
  *
