@@ -3,14 +3,14 @@
  * Link with liblift.a, which `rt staticlib lift` writes to target/staticlib/ after it has proved every function in it. The
  * library calls memcpy and nothing else: it does not allocate, block, print, keep state of its own, or use threads.
  *
- * What is proved, and what is not. Given that a call keeps the rules below, its answer, the table, and every byte that it was
- * lent are, on every frame, exactly what crates/lift/specs/Face.antt defines; it ends, and reads and writes nothing that was
- * not lent. The compiler cannot check the rules themselves across this boundary, so they are yours to keep:
+ * What is proved, and what is not. A call that keeps the rules below ends, and reads and writes nothing that was not lent.
+ * Its answer, the table and every byte that it was lent are, on every frame, exactly what crates/lift/specs/Face.antt
+ * defines. The compiler cannot check the rules themselves across this boundary, so they are yours to keep:
  *
- *   1. A pointer is not null and stands before as many bytes (or numbers) as the length beside it says, readable, and
- *      writable where it is not const. With a length of 0 the pointer is not looked behind, but is still not null.
+ *   1. A pointer is not null and stands before as many bytes (or numbers) as the length beside it says. They are readable,
+ *      and writable where it is not const. With a length of 0 the pointer is not looked behind, but is still not null.
  *      No length is over PTRDIFF_MAX bytes.
- *   2. What a call may write overlaps nothing else that the call takes: table, mem and out are apart from each other and
+ *   2. What a call may write overlaps nothing else that the call takes. So table, mem and out are apart from each other and
  *      from frame and contexts. (frame and contexts may overlap each other.)
  *   3. The table's bytes are all zero before its first lift_begin, and from then on only these calls write them. It may be
  *      copied or moved as a whole, with its mem, between calls. Nothing in it is a pointer.
@@ -41,8 +41,8 @@ extern "C" {
 /* What to pass with a length of 0, for contexts or a frame: the rules allow no null pointer. */
 #define LIFT_NONE ((const uint8_t *)"")
 
-/* A length. It crosses as 64 bits on every machine, 32-bit ones too, since that is the length of which the proofs speak; on 64-bit
- * machines it is size_t. A pointer is as wide as the machine's. */
+/* A length. It crosses as 64 bits on every machine, 32-bit ones too, since that is the length of which the proofs speak. On
+ * 64-bit machines it is size_t. A pointer is as wide as the machine's. */
 typedef uint64_t lift_len;
 
 /* A table: eight slots, the last time taken, and at most four gateways. 1,192 bytes, aligned to 8. What the words hold is
@@ -57,9 +57,9 @@ typedef struct lift_table {
  *   {LIFT_IN(LIFT_SHORT, 0xabcd), 0x0001}       short 0001 in PAN abcd
  *   {LIFT_SHORT, 0x0001}                        short 0001 with no PAN: "none" is a value of its own, and stands for no other
  *
- * A frame's sender is known by its address and PAN: the source PAN if the frame carries one, else the destination PAN, else none.
- * Version 1 of this interface had no PANs: a caller of it writes LIFT_IN(kind, pan) where it wrote the kind, and hands lift_begin
- * gateways and their count where it handed numbers. */
+ * A frame's sender is known by its address and PAN: the source PAN if the frame carries one, else the destination PAN, else
+ * none. Version 1 of this interface had no PANs. A caller of it now writes LIFT_IN(kind, pan) where it wrote the kind, and
+ * hands lift_begin gateways and their count where it handed numbers. */
 typedef struct lift_gateway {
   uint64_t kind;
   uint64_t value;
@@ -74,8 +74,8 @@ uint32_t lift_begin_flat(lift_table *t, const uint64_t *gateways, lift_len numbe
 
 /* Makes *t a table of `count` gateways, with eight free slots and the last time 0.
  *
- * Answers 0; or 14, and leaves *t as it was, where the list has more than four gateways, two with one address and PAN, or something
- * that is no gateway: another kind, a short address of 65,536 or more, a PAN over ffff.
+ * Answers 0, or 14 where the list is refused; then *t is as it was. It is refused where it has more than four gateways, two
+ * with one address and PAN, or something that is no gateway: another kind, a short address of 65,536 or more, a PAN over ffff.
  * A table that has begun may begin again; the parts that it held are then forgotten. */
 static inline uint32_t lift_begin(lift_table *t, const lift_gateway *gateways, lift_len count) {
   return lift_begin_flat(t, &gateways->kind, 2u * count);
@@ -94,10 +94,10 @@ static inline uint32_t lift_begin(lift_table *t, const lift_gateway *gateways, l
  *
  *   LIFT_KEPT     0    the frame is a part of a datagram that is not whole yet, or the repeat of one. out is as it was.
  *   LIFT_OUT      L    a datagram of L bytes, 40 to 2,047, stands at the start of out; the rest of out is as it was.
- *   LIFT_REFUSED  R    the frame is refused for reason R, below. out is as it was, to the last byte, and so is mem. No refusal
- *                      but 17 writes a lent byte: then the slot's memory keeps the part just written, and out is untouched.
+ *   LIFT_REFUSED  R    the frame is refused for reason R, below. out is as it was, to the last byte. So is mem, but for 17:
+ *                      then the slot's memory keeps the part just written.
  *
- * A refusal other than 7 and 8 takes the time too, and frees slots that are 60,000 ms old or older; 11 and 17 free their slot.
+ * A refusal other than 7 and 8 takes the time too, and frees slots that are 60,000 ms old or older. 11 and 17 free their slot.
  * Version 2 of this interface did not test carried checksums, and had no 17. */
 uint32_t lift_receive(lift_table *t, uint64_t time, const uint8_t *frame, lift_len frame_len, const uint8_t *contexts,
                       lift_len contexts_len, uint8_t *mem, lift_len mem_len, uint8_t *out, lift_len out_len);
@@ -110,8 +110,8 @@ static inline uint32_t lift_kind(uint32_t answer) { return answer >> 16; }
 static inline uint32_t lift_number(uint32_t answer) { return answer & 0xffffu; }
 
 /* The reasons of a refusal: the product's numbers, each with its name. docs/REFUSALS.md says what usually causes each and what
- * to do. lift_receive gives 1 to 13 and 17, lift_begin 14, lift_cut and lift_frames 4, 6, 7, 10 and 16; the others belong to calls that are not in
- * this header. */
+ * to do. lift_receive gives 1 to 13 and 17, lift_begin 14, lift_cut and lift_frames 4, 6, 7, 10 and 16. The others belong to
+ * calls that are not in this header. */
 enum lift_refusal {
   LIFT_ENDED = 1,           /* the bytes end before a needed field */
   LIFT_NOT_THIS_HEADER = 2, /* the leading bits are not this header's: not 6LoWPAN, or a dispatch that is not taken here */
@@ -125,7 +125,7 @@ enum lift_refusal {
   LIFT_BAD_PART = 10,       /* a part that no datagram can have */
   LIFT_CLASH = 11,          /* a part that clashes with bytes already taken; its slot is freed */
   LIFT_NO_SLOT = 12,        /* no slot may be opened for this gateway now */
-  LIFT_NOT_EXPANDED = 13,   /* secured, not a Data frame, or with a header that is not expanded */
+  LIFT_NOT_EXPANDED = 13,   /* secured, with information elements, not a Data frame, or with a header that is not expanded */
   LIFT_BAD_GATEWAYS = 14,   /* a bad list of gateways */
   LIFT_BAD_BLOCK = 15,      /* a bad capture block */
   LIFT_NOT_CUT = 16,        /* a datagram that is not cut into frames */
@@ -177,7 +177,7 @@ lift_len lift_held(const lift_table *t, uint64_t kind, uint64_t value);
  *   7     the longest frame, without its frame check: 80 to 127 bytes
  *
  * A number that is missing is 0, and numbers past the eighth are not looked at. Frames are Data frames of version 0 with the PAN
- * compressed; the datagram goes in one frame where one suffices, else in parts as long as the limit allows. The answers are put
+ * compressed. The datagram goes in one frame where one suffices, else in parts as long as the limit allows. The answers are put
  * together as lift_receive's:
  *
  *   LIFT_OUT      N    lift_cut: frame k, N bytes long, stands at the start of out, and the rest of out is as it was;
@@ -185,12 +185,14 @@ lift_len lift_held(const lift_table *t, uint64_t kind, uint64_t value);
  *   LIFT_REFUSED  R    out is as it was, to the last byte. In this order:
  *                      4   a datagram of below 40 or over 2,047 bytes, or a limit below 80 or over 127
  *                      6   an address that is none
- *                      16  the version is not 6, the payload length is not that of the bytes, or traffic class or flow label is not 0
+ *                      16  the version is not 6, the payload length is not that of the bytes, or traffic class or flow label
+ *                          is not 0
  *                      10  k is the number of frames or more (lift_cut only)
  *                      7   out is shorter than the frame (lift_cut only); 127 bytes are always enough
  *
- * Neither call has a state: k can be asked for in any order and again. What is proved: handed to lift_receive in any order, each at
- * least once, as docs/PROMISES.md says, the frames give the same datagram; frames are counted from 0.
+ * Neither call has a state: k, counted from 0, can be asked for in any order and again. What is proved: handed to lift_receive in
+ * any order, each at least once, as docs/PROMISES.md says, the frames give the same datagram. A UDP checksum is sent as it stands,
+ * so have it right. lift_receive tests it where the header went compressed, and refuses a wrong one, or 0, with 17.
  * Rule 2 holds here too: out is apart from datagram and link. */
 #define LIFT_LINK_NUMBERS 8u
 #define LIFT_FRAME_BYTES 127u

@@ -2,7 +2,7 @@
 //
 //     rustc -O -L target/staticlib -l static=lift examples/rust/answer.rs
 
-// include/lift.h has the rules of these calls.
+// include/lift.h has the rules of these calls. Lengths cross as 64 bits on every machine.
 mod lift {
     pub const SHORT: u64 = 1;
     pub const EXTENDED: u64 = 2;
@@ -15,11 +15,11 @@ mod lift {
     }
 
     extern "C" {
-        fn lift_begin_flat(t: *mut Table, gateways: *const u64, numbers: usize) -> u32;
+        fn lift_begin_flat(t: *mut Table, gateways: *const u64, numbers: u64) -> u32;
         #[rustfmt::skip]
-        fn lift_receive(t: *mut Table, time: u64, frame: *const u8, frame_len: usize, contexts: *const u8, contexts_len: usize, mem: *mut u8, mem_len: usize, out: *mut u8, out_len: usize) -> u32;
-        fn lift_frames(datagram: *const u8, datagram_len: usize, link: *const u64, numbers: usize) -> u32;
-        fn lift_cut(datagram: *const u8, datagram_len: usize, link: *const u64, numbers: usize, k: u16, out: *mut u8, out_len: usize) -> u32;
+        fn lift_receive(t: *mut Table, time: u64, frame: *const u8, frame_len: u64, contexts: *const u8, contexts_len: u64, mem: *mut u8, mem_len: u64, out: *mut u8, out_len: u64) -> u32;
+        fn lift_frames(datagram: *const u8, datagram_len: u64, link: *const u64, numbers: u64) -> u32;
+        fn lift_cut(datagram: *const u8, datagram_len: u64, link: *const u64, numbers: u64, k: u16, out: *mut u8, out_len: u64) -> u32;
     }
 
     // What frames say beside the datagram, in the order of include/lift.h.
@@ -36,14 +36,14 @@ mod lift {
         // How many frames the datagram goes in.
         pub fn frames(&self, datagram: &[u8]) -> Result<usize, u32> {
             // SAFETY: each pointer comes from a borrow of the length beside it.
-            told(unsafe { lift_frames(datagram.as_ptr(), datagram.len(), self.0.as_ptr(), self.0.len()) })
+            told(unsafe { lift_frames(datagram.as_ptr(), datagram.len() as u64, self.0.as_ptr(), self.0.len() as u64) })
         }
 
         // Frame k, from 0.
         pub fn cut(&self, datagram: &[u8], k: u16) -> Result<Vec<u8>, u32> {
             let mut frame = vec![0; 127];
             // SAFETY: each pointer comes from a borrow of the length beside it, and what is written is nobody else's.
-            let n = told(unsafe { lift_cut(datagram.as_ptr(), datagram.len(), self.0.as_ptr(), self.0.len(), k, frame.as_mut_ptr(), frame.len()) })?;
+            let n = told(unsafe { lift_cut(datagram.as_ptr(), datagram.len() as u64, self.0.as_ptr(), self.0.len() as u64, k, frame.as_mut_ptr(), frame.len() as u64) })?;
             frame.truncate(n);
             Ok(frame)
         }
@@ -60,7 +60,7 @@ mod lift {
             let mut r = Receiver { table: Table { words: [0; 149] }, mem: vec![0; MEM_BYTES] };
             let numbers = [kind | (u64::from(pan) + 1) << 16, value];
             // SAFETY: as above; the table's bytes are all zero.
-            match unsafe { lift_begin_flat(&mut r.table, numbers.as_ptr(), numbers.len()) } {
+            match unsafe { lift_begin_flat(&mut r.table, numbers.as_ptr(), numbers.len() as u64) } {
                 0 => Ok(r),
                 n => Err(n),
             }
@@ -71,7 +71,7 @@ mod lift {
             let mut out = vec![0; OUT_BYTES];
             // SAFETY: as above; what is written is borrowed with `&mut`, and so apart from all else.
             let answer = unsafe {
-                lift_receive(&mut self.table, 0, frame.as_ptr(), frame.len(), [0].as_ptr(), 0, self.mem.as_mut_ptr(), self.mem.len(), out.as_mut_ptr(), out.len())
+                lift_receive(&mut self.table, 0, frame.as_ptr(), frame.len() as u64, [0].as_ptr(), 0, self.mem.as_mut_ptr(), self.mem.len() as u64, out.as_mut_ptr(), out.len() as u64)
             };
             match answer >> 16 {
                 0 => Ok(None),

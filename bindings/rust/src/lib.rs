@@ -47,7 +47,7 @@ pub const OUT_BYTES: usize = 2_047;
 /// An address context of RFC 6282: a prefix of 64 bits. The list is by identifier, from 0 on.
 pub type Context = [u8; 8];
 
-// SAFETY: these are include/lift.h's declarations; the numbers, `&` and `&mut` are as the archive has them, and a pointer
+// SAFETY: these are include/lift.h's declarations. The numbers, `&` and `&mut` are as the archive has them, and a pointer
 // with a length beside it is a slice in two halves. Lengths cross as 64 bits on every machine. The two that take no pointer
 // can be called with anything.
 unsafe extern "C" {
@@ -207,7 +207,7 @@ impl Table {
     /// ([`Refusal::BadGateways`]), the table is as it was.
     pub fn begin(&mut self, gateways: &[Gateway]) -> Result<(), Refusal> {
         // SAFETY: a `Gateway` is its numbers one behind the other (`repr(C)`), so the slice is so many times as many
-        // numbers; it is read while it is borrowed, and `&mut` keeps the table, zero at first and private, apart from it.
+        // numbers. It is read while it is borrowed. `&mut` keeps the table, zero at first and private, apart from it.
         let answer = unsafe { lift_begin_flat(&mut self.raw, gateways.as_ptr(), (gateways.len() * Gateway::NUMBERS) as u64) };
         if answer == 0 { Ok(()) } else { Err(Refusal::from_number(answer as u16)) }
     }
@@ -221,7 +221,7 @@ impl Table {
         let flat = contexts.as_flattened();
         let (mem, room) = (&mut self.mem, &mut *out);
         // SAFETY: each pointer comes from a borrow of the length beside it, never null and never over `isize::MAX` bytes.
-        // What is written (table, memory, output) is borrowed with `&mut`, so that it overlaps nothing; the table was
+        // What is written (table, memory, output) is borrowed with `&mut`, so that it overlaps nothing. The table was
         // zero before its first `lift_begin` and, like its memory, is private.
         let answer = unsafe { lift_receive(&mut self.raw, time, frame.as_ptr(), frame.len() as u64, flat.as_ptr(), flat.len() as u64, mem.as_mut_ptr(), mem.len() as u64, room.as_mut_ptr(), room.len() as u64) };
         let number = answer as u16;
