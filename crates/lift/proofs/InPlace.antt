@@ -25,8 +25,8 @@ use Rattle.receiver.specs.declared.call.Judged.{Judged}
 use Rattle.receiver.specs.declared.Carried.{Carried}
 use Rattle.receiver.proofs.Turns.{withSlot, withTime, called, not-taken, timed-due, timed-young, leaves-slot, leaves-none, leaves-once}
 use Rattle.lift.specs.Face.{packed, Answers, received}
-use Rattle.lift.specs.InPlace.{numbered, judged, Told, ReceivesIn, PutAt, TakesIn}
-use Rattle.lift.specs.declared.Put.{Put}
+use Rattle.lift.specs.InPlace.{numbered, judged, ToldPacked, ReceivesIn, PutAt, TakesIn}
+use Rattle.lift.specs.declared.SlotAnswer.{SlotAnswer}
 
 -- what a call leaves, as an answer
 answers-of : (tb : Table) (t : ℕ) (s ctx m o : List ℕ) (a : Reply (List ℕ)) (x : Table) (m′ o′ : List ℕ) → Leaves (called tb t s ctx m o) a x m′ → (r : ℕ) → r ≡ packed (told a) → o′ ≡ outputAfter a o
@@ -41,7 +41,7 @@ answers-of tb t s ctx m o a x m′ o′ L r e f = record {
 
 -- ---- the part
 module _ (x : Table) (t : ℕ) (c : Carried) (m o : List ℕ) (i : ℕ) (e : i ≡ slotFor x c) where
-  pub take-slot : i < 8 → (d : Slot) (r : Put) (m′ o′ : List ℕ) → PutAt r i m m′ o o′ (takeAt (getD (x .slots) i d) i t (partIn c) m o)
+  pub take-slot : i < 8 → (d : Slot) (r : SlotAnswer) (m′ o′ : List ℕ) → PutAt r i m m′ o o′ (takeAt (getD (x .slots) i d) i t (partIn c) m o)
       → TakesIn x t c (r .answer) (withSlot x i (r .slot)) m m′ o o′
   take-slot h d r m′ o′ P s ctx C taken tb T =
       rw (P .slot, P .memory) (answers-of tb t s ctx m o _ _ _ o′ (leaves-slot tb x t s ctx m o T c C taken i e h d) (r .answer) (P .answer) (P .output))
@@ -54,7 +54,7 @@ module _ (x : Table) (t : ℕ) (s ctx m o : List ℕ) (c : Carried) (C : Carries
   pub timed-part : isTaken c ≡ true → (r : ℕ) (x′ : Table) (m′ o′ : List ℕ) → TakesIn x t c r x′ m m′ o o′ → ReceivesIn x t s ctx r x′ m m′ o o′
   timed-part h r x′ m′ o′ P = P s ctx C h
 
-  pub timed-other : isTaken c ≡ false → (r : ℕ) (o′ : List ℕ) → Told r o o′ (atOnce c o) → ReceivesIn x t s ctx r x m m o o′
+  pub timed-other : isTaken c ≡ false → (r : ℕ) (o′ : List ℕ) → ToldPacked r o o′ (atOnce c o) → ReceivesIn x t s ctx r x m m o o′
   timed-other h r o′ P tb T = answers-of tb t s ctx m o (atOnce c o) x m o′ (leaves-once tb x t s ctx m o T c C h) r (P .answer) (P .output)
 
 -- ---- the time

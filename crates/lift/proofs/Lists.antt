@@ -16,7 +16,7 @@ use Rattle.reassembly.specs.declared.table.Listed.{Listed}
 use Rattle.reassembly.specs.declared.table.Gateway.{Gateway}
 use Rattle.reassembly.proofs.Tests.{by-test, by-order}
 use Rattle.reassembly.proofs.Fresh.{accepted, sources-are, refuses-long, not-long, when-fit, when-accepted, when-refused}
-use Rattle.lift.specs.Face.{noGateway, gatewayOf, listed, gatewayAt, gateways, refusesList, begun, tableBegun}
+use Rattle.lift.specs.Face.{noGateway, gatewayOf, listed, gatewayAt, gateways, refusesList, listAnswer, tableBegun}
 
 -- ---- two numbers each
 pub at-in : (l : List ℕ) (i : ℕ) → i * 2 + 1 < length l → gatewayAt l i ≡ gatewayOf (getD l (i * 2) 0) (getD l (i * 2 + 1) 0)
@@ -67,15 +67,15 @@ module _ (l : List ℕ) (four-of : List Gateway) (n : ℕ) (are : four-of ≡ ga
       (λ h. refuses-long n (sources n four-of) h ∙ sym (rw (sym many) (refuses-long n (gateways l) h)))
 
   module _ (x : Table) (y : Listed) (b : Begins y x n four-of) where
-    pub begun-list : y ≡ Listed.Accepted → (0 ≡ begun l) × ((t : Table) → choose (eqb 0 0) x t ≡ tableBegun t l)
-    unfolding begun tableBegun
+    pub begun-list : y ≡ Listed.Accepted → (0 ≡ listAnswer l) × ((t : Table) → choose (eqb 0 0) x t ≡ tableBegun t l)
+    unfolding listAnswer tableBegun
     begun-list e =
         let h = when-accepted n four-of y x b e in
         let k : refusesList l ≡ false = sym same-refusal ∙ h in
         (rw k refl, λ t. rw k (when-fit n four-of y x b h ∙ ap fresh (same-sources (not-long n (sources n four-of) h))))
 
-    pub refused-list : (r : Refusal) → y ≡ Listed.Refused r → (j : ℕ) → j ≡ numberOf r → (j ≡ begun l) × ((t : Table) → choose (eqb j 0) x t ≡ tableBegun t l)
-    unfolding begun tableBegun
+    pub refused-list : (r : Refusal) → y ≡ Listed.Refused r → (j : ℕ) → j ≡ numberOf r → (j ≡ listAnswer l) × ((t : Table) → choose (eqb j 0) x t ≡ tableBegun t l)
+    unfolding listAnswer tableBegun
     refused-list r e j q =
         let h = when-refused n four-of y x b r e in
         let k : refusesList l ≡ true = sym same-refusal ∙ h .0 in
@@ -89,8 +89,8 @@ fit-list l k =
     let e : sources (length a) a ≡ map gateOf a = sources-are (length a) a ∙ ap (map gateOf) (take-length a) in
     rw e at (accepted (length a) a (omega arith) (rw e k))
 
-pub begun-fresh : (l : List ℕ) → begun l ≡ 0 → ((t : Table) → tableBegun t l ≡ fresh (gateways l)) × Gateways (gateways l)
-unfolding begun tableBegun
+pub begun-fresh : (l : List ℕ) → listAnswer l ≡ 0 → ((t : Table) → tableBegun t l ≡ fresh (gateways l)) × Gateways (gateways l)
+unfolding listAnswer tableBegun
 begun-fresh l e = by-test (refusesList l)
     (λ k. let z : _≡_ {A = ℕ} 14 0 = rw k at e in absurd (omega (arith, z)))
     (λ k. (λ t. rw k refl, fit-list l k))

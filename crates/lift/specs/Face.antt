@@ -65,8 +65,8 @@ unfoldable pub refusesList : List ℕ → Bool
 refusesList l = refusedList (length (listed l)) (gateways l)
 
 -- the answer: 0, or 14
-unfoldable pub begun : List ℕ → ℕ
-begun l = choose (refusesList l) 14 0
+unfoldable pub listAnswer : List ℕ → ℕ
+listAnswer l = choose (refusesList l) 14 0
 
 -- the table afterwards, t before: a refused list leaves it as it was
 unfoldable pub tableBegun : Table → List ℕ → Table

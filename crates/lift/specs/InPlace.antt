@@ -18,7 +18,7 @@ use Rattle.receiver.specs.Steps as Steps
 use Rattle.receiver.specs.Steps.{Timed, isTaken}
 use Rattle.receiver.specs.declared.Carried.{Carried}
 use Rattle.lift.specs.Face.{packed, received, Answers}
-use Rattle.lift.specs.declared.Put.{Put}
+use Rattle.lift.specs.declared.SlotAnswer.{SlotAnswer}
 
 -- ---- the time: 7 and 8 as answers; 1 where a slot is old, 0 where none is
 abbrev pub numbered : Answer (Unit {0}) → ℕ → ℕ
@@ -30,7 +30,7 @@ judged h t m o = numbered (Steps.judged (h .last) t m o) (choose (leb 1 (count (
 
 -- ---- the frame
 -- the answer r and the output o, o₀ before, are as a says
-pub record Told (r : ℕ) (o₀ o : List ℕ) (a : Reply (List ℕ)) : Type 0 where
+pub record ToldPacked (r : ℕ) (o₀ o : List ℕ) (a : Reply (List ℕ)) : Type 0 where
   pub answer : r ≡ packed (told a)
   pub output : o ≡ outputAfter a o₀
 
@@ -41,7 +41,7 @@ ReceivesIn x t s ctx r x′ m m′ o o′ = (tb : Table) → Timed tb x t m o �
 
 -- ---- the part
 -- the answer r, the memory m and the output o, m₀ and o₀ before, are as q says of slot i
-pub record PutAt (r : Put) (i : ℕ) (m₀ m o₀ o : List ℕ) (q : Parts.Put) : Type 0 where
+pub record PutAt (r : SlotAnswer) (i : ℕ) (m₀ m o₀ o : List ℕ) (q : Parts.Put) : Type 0 where
   pub answer : r .answer ≡ packed (told (q .reply))
   pub slot : r .slot ≡ q .slot
   pub memory : m ≡ splice m₀ i (q .bytes)

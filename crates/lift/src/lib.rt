@@ -20,9 +20,9 @@ ghost use Rattle.reassembly.specs.Table.{takeAt};
 ghost use Rattle.reassembly.specs.declared.table.Table.{Table};
 ghost use Rattle.receiver.specs.Carried.{partIn};
 ghost use Rattle.receiver.specs.Steps.{atOnce};
-ghost use Rattle.lift.specs.Face.{packed, InHalf, addressOf, panFrom, gatewayOf, gatewayAt, begun, tableBegun};
-ghost use Rattle.lift.specs.Face.{received, Answers};
-ghost use Rattle.lift.specs.InPlace.{judged, Told, PutAt, TakesIn, ReceivesIn};
+ghost use Rattle.lift.specs.Face.{packed, InHalf, addressOf, panFrom, gatewayOf, gatewayAt, listAnswer};
+ghost use Rattle.lift.specs.Face.{tableBegun, received, Answers};
+ghost use Rattle.lift.specs.InPlace.{judged, ToldPacked, PutAt, TakesIn, ReceivesIn};
 use ieee802154::Address;
 use ieee802154::Pan;
 use ieee802154::PanField;
@@ -54,7 +54,7 @@ pub struct Lifted {
 }
 
 // The answer to a part as a number, and the slot's record after it.
-pub struct Put {
+pub struct SlotAnswer {
     pub slot: Slot,
     pub answer: u32,
 }
@@ -119,7 +119,7 @@ fn gateway_at(gateways: &[u64], i: usize) -> Gateway
 
 // A table of these gateways, at its beginning, and 0; where the list is refused, 14, and a table without gateways.
 fn begin(gateways: &[u64]) -> Lifted
-    ensures { λ r. ⌜ (r .answer ≡ begun (now (gateways .entry)))
+    ensures { λ r. ⌜ (r .answer ≡ listAnswer (now (gateways .entry)))
         × ((t : Table) → choose (eqb (r .answer) 0) (r .table) t ≡ tableBegun t (now (gateways .entry))) ⌝ }
 {
     let a = gateway_at(gateways, 0);
@@ -171,14 +171,14 @@ fn judge(table: Table, time: u64, mem: usize, out: usize) -> u32
 
 // The answer to a frame that no slot is for.
 fn answer(c: Carried, out: &mut [u8]) -> u32
-    ensures { λ r. ⌜ Told r (now (out .entry)) (now (out .exit)) (atOnce c (now (out .entry))) ⌝ }
+    ensures { λ r. ⌜ ToldPacked r (now (out .entry)) (now (out .exit)) (atOnce c (now (out .entry))) ⌝ }
 {
     let o = call::answer(c, out);
     pack(o)
 }
 
 // The part that a frame carries, for slot i, whose record is s.
-fn put_at(s: Slot, i: usize, time: u64, c: Carried, mem: &mut [u8], out: &mut [u8]) -> Put
+fn put_at(s: Slot, i: usize, time: u64, c: Carried, mem: &mut [u8], out: &mut [u8]) -> SlotAnswer
     ensures { λ r. ⌜ PutAt r i (now (mem .entry)) (now (mem .exit)) (now (out .entry)) (now (out .exit))
         (takeAt s i time (partIn c) (now (mem .entry)) (now (out .entry))) ⌝ }
 {
@@ -186,7 +186,7 @@ fn put_at(s: Slot, i: usize, time: u64, c: Carried, mem: &mut [u8], out: &mut [u
     let outcome = d.outcome;
     let slot = d.slot;
     let answer = pack(outcome);
-    Put { slot, answer }
+    SlotAnswer { slot, answer }
 }
 
 // How many slots the gateway of this kind and number holds.
@@ -203,7 +203,7 @@ fn held_by(table: Table, kind: u64, number: u64) -> usize
 // 65,536 times one more than its identifier added to the first. Answers 0, or 14.
 #[no_mangle]
 pub extern "C" fn lift_begin_flat(t: &mut Table, gateways: &[u64]) -> u32
-    ensures { λ r. ⌜ (r ≡ begun (now (gateways .entry)))
+    ensures { λ r. ⌜ (r ≡ listAnswer (now (gateways .entry)))
         × (now (t .exit) ≡ tableBegun (now (t .entry)) (now (gateways .entry))) ⌝ }
 {
     let r = begin(gateways);

@@ -22,7 +22,7 @@ use Rattle.reassembly.proofs.Promises as Table
 use Rattle.reassembly.specs.Cover.{In, Covers, MadeOf}
 use Rattle.promises.specs.Cuttings.{Cutting}
 use Rattle.promises.specs.Runs.{came, AllKept, CallsForward, CallsSupposed, CallsConcluded}
-use Rattle.promises.specs.Frames.{Turn, left, callIn, Ran, endOf, openings, endings, Forward, meant, Brings, partsOf, takenOf, Supposed, Concluded, HandedOut}
+use Rattle.promises.specs.Frames.{Turn, left, callIn, Ran, endOf, openings, endings, Forward, meant, MeansPart, partsOf, takenOf, Supposed, Concluded, HandedOut}
 use Rattle.promises.specs.Demands.{Demand3, AtMostThree, EightSlots, NeverMeet}
 use Rattle.reassembly.proofs.Fits.{fit}
 use Rattle.promises.proofs.Strangers.{no-stranger}
@@ -36,7 +36,7 @@ use Rattle.promises.proofs.Runs as Runs
 -- the calls leave table and memory as the contract says, whatever form the answer has: runs of the library go so too (proofs/Library.antt)
 unfoldable pub Went : State → List Turn → Type 0
 Went σ [] = Unit {0}
-Went σ (h ∷ hs) = (h .received .table ≡ (step σ (callIn σ h)) .state .table) × (h .memory ≡ (step σ (callIn σ h)) .state .mem) × Went (left h) hs
+Went σ (h ∷ hs) = (h .returned .table ≡ (step σ (callIn σ h)) .state .table) × (h .memory ≡ (step σ (callIn σ h)) .state .mem) × Went (left h) hs
 
 pub ran-went : (hs : List Turn) (σ : State) → Ran σ hs → Went σ hs
 unfolding Ran Went
@@ -69,7 +69,7 @@ module _ (gs : List Source) (m : List ℕ) where
     unfolding Went next
     left-is =
         let c = call-is σ h F in
-        let a : h .received .table ≡ (step σ (meant gs m h)) .state .table = rw c at (L .0) in
+        let a : h .returned .table ≡ (step σ (meant gs m h)) .state .table = rw c at (L .0) in
         let b : h .memory ≡ (step σ (meant gs m h)) .state .mem = rw c at (L .1) in
         λ i. record { table = a i; mem = b i }
 
@@ -203,12 +203,12 @@ kept-in gs m k (h ∷ hs) σ F L A B = (
 
 -- what `receive` answers then, and the output
 kept-so : (k : Key) (hs : List Turn) (σ : State) → Ran σ hs → KeptIn k σ hs
-    → (h : Turn) → In h hs → named (h .frame) ≡ is k → (h .received .answer ≡ Outcome.Kept) × (h .output ≡ h .before)
+    → (h : Turn) → In h hs → named (h .frame) ≡ is k → (h .returned .answer ≡ Outcome.Kept) × (h .output ≡ h .before)
 unfolding Ran KeptIn
 kept-so k [] σ R A h i n = absurd i
 kept-so k (x ∷ hs) σ R A h (inl z) n =
     let e = A .0 (rw z at n) in
-    rw z (outcome-one (x .received .answer) Outcome.Kept (R .0 .answer ∙ ap told e), R .0 .output ∙ ap (λ (z : Reply (List ℕ)). outputAfter z (x .before)) e)
+    rw z (outcome-one (x .returned .answer) Outcome.Kept (R .0 .answer ∙ ap told e), R .0 .output ∙ ap (λ (z : Reply (List ℕ)). outputAfter z (x .before)) e)
 kept-so k (x ∷ hs) σ R A h (inr i) n = kept-so k hs (left x) (R .1) (A .1) h i n
 
 -- a datagram that is handed out stands at the output's start
@@ -366,7 +366,7 @@ module _ (gs : List Source) (m : List ℕ) (k : Key) (d : List ℕ) (C : Cutting
     unfolding Ran
     concluded D = record {
       none-before = kept-so k mid σ₁ (ran-left gs m mid (c ∷ []) σ₁ ran₁) (D .none-before);
-      answer = outcome-one (c .received .answer) (Outcome.Out (length d)) (ran₂ .0 .answer ∙ ap told (D .exactly));
+      answer = outcome-one (c .returned .answer) (Outcome.Out (length d)) (ran₂ .0 .answer ∙ ap told (D .exactly));
       output = out-front d (c .before) (c .output) _ (ran₂ .0 .output) (D .exactly) (D .room);
     }
 
@@ -409,7 +409,7 @@ module _ (gs : List Source) (m : List ℕ) (W : Gateways gs) (h : 16384 ≤ leng
 module _ (gs : List Source) (m : List ℕ) (W : Gateways gs) (room : 16384 ≤ length m) (hs : List Turn) (h : Turn) where
   -- of the call's reply, whatever form the answer has
   module _ (L : Went (begun gs m) (hs ++ (h ∷ []))) where
-    pub went-apart : (p : Part) → Brings gs m h p → (n : ℕ) → out n ≡ told ((step (endOf (begun gs m) hs) (callIn (endOf (begun gs m) hs) h)) .reply)
+    pub went-apart : (p : Part) → MeansPart gs m h p → (n : ℕ) → out n ≡ told ((step (endOf (begun gs m) hs) (callIn (endOf (begun gs m) hs) h)) .reply)
         → h .output ≡ outputAfter ((step (endOf (begun gs m) hs) (callIn (endOf (begun gs m) hs) h)) .reply) (h .before) → HandedOut gs m (p .key) hs h n
     unfolding takenOf
     went-apart p b n a o =
@@ -437,7 +437,7 @@ module _ (gs : List Source) (m : List ℕ) (W : Gateways gs) (room : 16384 ≤ l
         out-told n (refused r) e = let z : _≡_ {A = ℕ} 0 1 = cc in absurd (omega arith)
 
   module _ (R : Ran (begun gs m) (hs ++ (h ∷ []))) where
-    apart : (p : Part) → Brings gs m h p → (n : ℕ) → h .received .answer ≡ Outcome.Out n → HandedOut gs m (p .key) hs h n
+    apart : (p : Part) → MeansPart gs m h p → (n : ℕ) → h .returned .answer ≡ Outcome.Out n → HandedOut gs m (p .key) hs h n
     unfolding Ran
     apart p b n a =
         let G = ran-right gs m hs (h ∷ []) (begun gs m) R .0 in

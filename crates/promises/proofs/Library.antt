@@ -16,18 +16,17 @@ use Rattle.reassembly.specs.declared.slot.Key.{Key}
 use Rattle.reassembly.specs.declared.table.Table.{Table}
 use Rattle.reassembly.specs.Cover.{In}
 use Rattle.receiver.specs.Names.{named}
-use Rattle.lift.specs.Face.{packed, gatewayOf, gateways, tableBegun, Answers, received}
-use Rattle.lift.specs.Face as Face
+use Rattle.lift.specs.Face.{packed, gatewayOf, gateways, listAnswer, tableBegun, Answers, received}
 use Rattle.lift.proofs.Lists.{begun-fresh}
 use Rattle.promises.specs.Cuttings.{Cutting}
-use Rattle.promises.specs.Frames.{Turn, left, callIn, endOf, openings, endings, Brings, Supposed, HandedOut}
+use Rattle.promises.specs.Frames.{Turn, left, callIn, endOf, openings, endings, MeansPart, Supposed, HandedOut}
 use Rattle.promises.specs.Library.{LiftTurn, asTurn, RanIn, ConcludedIn}
 use Rattle.promises.specs.Demands.{LiftDemand3, LiftAtMostThree, LiftEightSlots, LiftNeverMeet}
 use Rattle.promises.proofs.Frames.{Went, KeptIn, Replies, replies, replies-ready, out-front, went-three, went-none, went-eight, went-apart}
 
 -- ---- "From a fresh table": where `lift_begin` answers 0, it leaves such a table, of gateways that `Supposed` asks for, whatever it was before
 
-pub lift-begun : (t : Table) (l m : List ℕ) → Face.begun l ≡ 0 → (record { table = tableBegun t l; mem = m } ≡ begun (gateways l) m) × Gateways (gateways l)
+pub lift-begun : (t : Table) (l m : List ℕ) → listAnswer l ≡ 0 → (record { table = tableBegun t l; mem = m } ≡ begun (gateways l) m) × Gateways (gateways l)
 lift-begun t l m e = let w = begun-fresh l e in (ap (λ (x : Table). record { table = x; mem = m }) (w .0 t), w .1)
 
 -- ---- a run of `lift_receive` goes as a run of `receive` does

@@ -20,7 +20,7 @@ use Rattle.reassembly.specs.Cover.{In, Has, MadeOf}
 use Rattle.reassembly.proofs.Promises.{each-byte}
 use Rattle.receiver.specs.Names.{named}
 use Rattle.receiver.proofs.Names.{call-part}
-use Rattle.promises.specs.Frames.{Turn, Ran, meant, Brings, takenOf, HandedOut}
+use Rattle.promises.specs.Frames.{Turn, Ran, meant, MeansPart, takenOf, HandedOut}
 use Rattle.promises.proofs.Frames.{never-meet}
 
 either : (b : Bool) (q : Part) (x y : List Part) {X : Type 0} → (In q x → X) → (In q y → X) → In q (choose b x y) → X
@@ -66,12 +66,12 @@ module _ (gs : List Source) (m : List ℕ) where
     pub among : In turn hs
     pub name : named (turn .frame) ≡ is k
     pub part-of : Part
-    pub brings : Brings gs m turn part-of
+    pub brings : MeansPart gs m turn part-of
     pub has : Has part-of x
     pub byte : getD d x 0 ≡ getD (part-of .bytes) (x - part-of .unit * 8) 0
 
-  pub each-sent : Gateways gs → 16384 ≤ length m → (hs : List Turn) (h : Turn) → Ran (begun gs m) (hs ++ (h ∷ [])) → (p : Part) → Brings gs m h p
-      → (n : ℕ) → h .received .answer ≡ Outcome.Out n
+  pub each-sent : Gateways gs → 16384 ≤ length m → (hs : List Turn) (h : Turn) → Ran (begun gs m) (hs ++ (h ∷ [])) → (p : Part) → MeansPart gs m h p
+      → (n : ℕ) → h .returned .answer ≡ Outcome.Out n
       → (H : HandedOut gs m (p .key) hs h n) × ((x : ℕ) → x < p .key .size → (wasElided (H .made .sum) ≡ true → (x < H .made .sum .udp + 6) ⊎ (H .made .sum .udp + 8 ≤ x)) → Sent (p .key) (hs ++ (h ∷ [])) (H .datagram) x)
   unfolding takenOf
   each-sent W room hs h R p b n a =

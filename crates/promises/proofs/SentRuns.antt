@@ -33,7 +33,7 @@ use Rattle.cutting.specs.declared.piece.Piece.the-variants.{Whole, First, Later
 use Rattle.cutting.proofs.Cuttings.{cut-was, cut-ready}
 use Rattle.cutting.proofs.Tiling.{Each, pieces-each, startOf, endOf, pieces-chain}
 use Rattle.promises.specs.Runs.{came}
-use Rattle.promises.specs.Frames.{Turn, callIn, Ran, endOf as endsAt, meant, Brings, partsOf, Supposed, Concluded}
+use Rattle.promises.specs.Frames.{Turn, callIn, Ran, endOf as endsAt, meant, MeansPart, partsOf, Supposed, Concluded}
 use Rattle.promises.specs.Cuttings.{Cutting}
 use Rattle.promises.specs.Sent.{sender, keyFor, partFor, callFor, SumRight, SentSupposed}
 use Rattle.promises.proofs.Engine.{In-left, In-right}
@@ -48,7 +48,7 @@ cuts l d fs b e =
     record { bytes = b; ready = cut-ready l d fs e; both = w .both; ours = w .ours }
 
 -- ---- what a call brings came
-came-has : (gs : List Source) (m : List ℕ) (k : Key) (hs : List Turn) (h : Turn) (p : Part) → In h hs → Brings gs m h p → p .key ≡ k → fits p ≡ true → In p (came k (map (meant gs m) hs))
+came-has : (gs : List Source) (m : List ℕ) (k : Key) (hs : List Turn) (h : Turn) (p : Part) → In h hs → MeansPart gs m h p → p .key ≡ k → fits p ≡ true → In p (came k (map (meant gs m) hs))
 unfolding came
 came-has gs m k [] h p i b e f = absurd i
 came-has gs m k (g ∷ hs) h p (inl q) b e f =
@@ -86,12 +86,12 @@ module _ (gs : List Source) (m : List ℕ) (l : Link) (d : List ℕ) (fs : List 
   name : (h : Turn) (x : Piece) → In x ps → h .frame ≡ frameOf l d x → named (h .frame) ≡ is (keyFor l d)
   name h x i q = frame-part gs (h .contexts) (h .time) (h .frame) (h .time) (partFor l d x) (brought h x i q) .name ∙ ap is (stand x i .key)
 
-  lent : (h : Turn) (x : Piece) → In x ps → h .frame ≡ frameOf l d x → 2047 ≤ length (h .before) → Brings gs m h (partFor l d x)
+  lent : (h : Turn) (x : Piece) → In x ps → h .frame ≡ frameOf l d x → 2047 ≤ length (h .before) → MeansPart gs m h (partFor l d x)
   unfolding callOf lentCall
   lent h x i q r = rw (le-ltb (length m) 16384 (H .enough), le-ltb (length (h .before)) 2047 r) (brought h x i q)
 
   -- a call with a frame of the cutting brings its part
-  brings-frame : (h : Turn) → In h (mid ++ (c ∷ [])) → In (h .frame) fs → (x : Piece) × In x ps × (h .frame ≡ frameOf l d x) × Brings gs m h (partFor l d x)
+  brings-frame : (h : Turn) → In h (mid ++ (c ∷ [])) → In (h .frame) fs → (x : Piece) × In x ps × (h .frame ≡ frameOf l d x) × MeansPart gs m h (partFor l d x)
   brings-frame h j i = let (x, n, q) = of-frame (h .frame) i in (x, n, q, lent h x n q (H .room h j i))
 
   covered : Covers (length d) (partsOf gs m (keyFor l d) (mid ++ (c ∷ [])))
@@ -172,9 +172,9 @@ module _ (σ : State) (l : Link) (d : List ℕ) (fs : List (List ℕ)) (b : Byte
   whole-reply = rw (le-ltb (length (σ .mem)) 16384 enough, le-ltb (length (h .before)) 2047 room, whole-call, le-ltb (h .time) (σ .table .last) time) refl
 
   -- the call hands the same datagram out
-  pub whole-handed-out : Gives (h .received) (h .memory) (h .before) (h .output) (step σ (callIn σ h)) → (h .received .answer ≡ Outcome.Out (length d)) × (h .output ≡ d ++ drop (length d) (h .before))
+  pub whole-handed-out : Gives (h .returned) (h .memory) (h .before) (h .output) (step σ (callIn σ h)) → (h .returned .answer ≡ Outcome.Out (length d)) × (h .output ≡ d ++ drop (length d) (h .before))
   whole-handed-out G =
       let R = cuts l d fs b e .ready in (
-        outcome-one (h .received .answer) (Outcome.Out (length d)) (G .answer ∙ ap told whole-reply),
+        outcome-one (h .returned .answer) (Outcome.Out (length d)) (G .answer ∙ ap told whole-reply),
         out-front d (h .before) (h .output) _ (G .output) whole-reply (omega (arith, R .1)),
       )

@@ -30,7 +30,7 @@ use Rattle.receiver.specs.Names.{named}
 use Rattle.reassembly.specs.Cover.{In}
 use Rattle.promises.specs.Cuttings.{zeroed, Cutting}
 use Rattle.promises.specs.Runs.{came, AllKept}
-use Rattle.promises.specs.Frames.{Turn, callIn, Ran, endOf, Forward, meant, Brings, partsOf, Supposed, Concluded}
+use Rattle.promises.specs.Frames.{Turn, callIn, Ran, endOf, Forward, meant, MeansPart, partsOf, Supposed, Concluded}
 use Rattle.promises.proofs.TwoParts.{low, high, halves, low-in, high-in, halves-cover, low-missing, high-missing}
 use Rattle.ieee802154.specs.declared.addr.PanField.{PanField}
 use Rattle.reassembly.specs.declared.table.Gateway.{Gateway}
@@ -73,7 +73,7 @@ turn σ o t s p = record {
   frame = s;
   contexts = [];
   before = o;
-  received = record { answer = answerOf ((step σ (part t p)) .reply); table = (step σ (part t p)) .state .table };
+  returned = record { answer = answerOf ((step σ (part t p)) .reply); table = (step σ (part t p)) .state .table };
   memory = (step σ (part t p)) .state .mem;
   output = outputAfter ((step σ (part t p)) .reply) o;
 }
@@ -169,7 +169,7 @@ module _ (w : Other) (m : List ℕ) (enough : 16384 ≤ length m) (o : List ℕ)
   meant-so t s p e = rw (le-ltb (length m) 16384 enough, le-ltb (length o) 2047 room) e
 
   meets : (σ : State) (t : ℕ) (s : List ℕ) (p : Part) → Fixed gs m σ → frameCall gs [] t s ≡ part t p → answered ((step σ (part t p)) .reply) ≡ true
-      → Gives (turn σ o t s p .received) (turn σ o t s p .memory) o (turn σ o t s p .output) (step σ (callIn σ (turn σ o t s p)))
+      → Gives (turn σ o t s p .returned) (turn σ o t s p .memory) o (turn σ o t s p .output) (step σ (callIn σ (turn σ o t s p)))
   meets σ t s p F e a =
       let c : callIn σ (turn σ o t s p) ≡ part t p = call-is gs m σ (turn σ o t s p) F ∙ meant-so t s p e in
       rw c (record { answer = answer-so ((step σ (part t p)) .reply) a; table = refl; memory = refl; output = refl })
@@ -228,7 +228,7 @@ module _ (w : Other) (m : List ℕ) (enough : 16384 ≤ length m) (o : List ℕ)
     rw (meant₂, meant₃, meant₄) (came-so w .3),
   )
 
-  of-old : (h : Turn) → In h (h₁ ∷ h₂ ∷ h₃ ∷ []) → named (h .frame) ≡ is old-key → (p : Part) × In p (old-cutting .parts) × Brings gs m h p
+  of-old : (h : Turn) → In h (h₁ ∷ h₂ ∷ h₃ ∷ []) → named (h .frame) ≡ is old-key → (p : Part) × In p (old-cutting .parts) × MeansPart gs m h p
   unfolding old-cutting zeroed summedBy fitsIn
   of-old h (inl z) n = rw z (old-high, high-in old-key last-month 7 (carriedAt 0 40) refl (lit< tt) (lit≤ tt) refl refl refl old-right, meant₁)
   of-old h (inr (inl z)) n =
@@ -236,7 +236,7 @@ module _ (w : Other) (m : List ℕ) (enough : 16384 ≤ length m) (o : List ℕ)
   of-old h (inr (inr (inl z))) n = rw z (old-low, low-in old-key last-month 7 (carriedAt 0 40) refl (lit< tt) (lit≤ tt) refl refl refl old-right, meant₃)
   of-old h (inr (inr (inr z))) n = absurd z
 
-  of-new : (h : Turn) → In h (h₂ ∷ h₃ ∷ h₄ ∷ []) → named (h .frame) ≡ is (new-key w) → (p : Part) × In p (new-cutting .parts) × Brings gs m h p
+  of-new : (h : Turn) → In h (h₂ ∷ h₃ ∷ h₄ ∷ []) → named (h .frame) ≡ is (new-key w) → (p : Part) × In p (new-cutting .parts) × MeansPart gs m h p
   unfolding new-cutting zeroed summedBy fitsIn
   of-new h (inl z) n = rw z ((new-low w), low-in (new-key w) (this-month w) 7 (carriedAt 0 40) refl (lit< tt) (lit≤ tt) refl refl refl (new-right w), meant₂)
   of-new h (inr (inl z)) n =
@@ -369,7 +369,7 @@ module _ (w : Other) (m : List ℕ) (enough : 16384 ≤ length m) (o : List ℕ)
   unfolding partsOf came comes sameKey sameSource sameNode fitsIn zeroed
   resent-came = (rw (elided₁, elided₂), rw (elided₁, elided₂, elided₃))
 
-  of-resent : (h : Turn) → In h (e₁ ∷ e₂ ∷ e₃ ∷ []) → named (h .frame) ≡ is old-key → (p : Part) × In p (resent-cutting .parts) × Brings gs m h p
+  of-resent : (h : Turn) → In h (e₁ ∷ e₂ ∷ e₃ ∷ []) → named (h .frame) ≡ is old-key → (p : Part) × In p (resent-cutting .parts) × MeansPart gs m h p
   unfolding resent-cutting
   of-resent h (inl z) n = rw z (resent-low, low-in old-key resent 7 (elidedAt 0 40) refl (lit< tt) (lit≤ tt) (resent-fits .0) (resent-fits .1) resent-summed resent-right, elided₁)
   of-resent h (inr (inl z)) n = rw z (resent-low, low-in old-key resent 7 (elidedAt 0 40) refl (lit< tt) (lit≤ tt) (resent-fits .0) (resent-fits .1) resent-summed resent-right, elided₂)
@@ -446,7 +446,7 @@ module _ (w : Other) (m : List ℕ) (enough : 16384 ≤ length m) (o : List ℕ)
   unfolding partsOf came comes sameKey sameSource sameNode fitsIn zeroed
   relayed-came = (rw relayed₁, rw (relayed₁, relayed₂))
 
-  of-relayed : (h : Turn) → In h (r₁ ∷ r₂ ∷ []) → named (h .frame) ≡ is old-key → (p : Part) × In p (old-cutting .parts) × Brings gs m h p
+  of-relayed : (h : Turn) → In h (r₁ ∷ r₂ ∷ []) → named (h .frame) ≡ is old-key → (p : Part) × In p (old-cutting .parts) × MeansPart gs m h p
   unfolding old-cutting zeroed summedBy fitsIn
   of-relayed h (inl z) n = rw z (old-high, high-in old-key last-month 7 (carriedAt 0 40) refl (lit< tt) (lit≤ tt) refl refl refl old-right, relayed₁)
   of-relayed h (inr (inl z)) n = rw z (old-low, low-in old-key last-month 7 (carriedAt 0 40) refl (lit< tt) (lit≤ tt) refl refl refl old-right, relayed₂)

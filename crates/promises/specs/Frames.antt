@@ -27,13 +27,13 @@ pub record Turn : Type 0 where
   pub frame : List ℕ
   pub contexts : List ℕ
   pub before : List ℕ
-  pub received : Received
+  pub returned : Received
   pub memory : List ℕ
   pub output : List ℕ
 
 -- the table and the memory that a call leaves
 abbrev pub left : Turn → State
-left h = record { table = h .received .table; mem = h .memory }
+left h = record { table = h .returned .table; mem = h .memory }
 
 -- what comes to the table and the memory σ
 unfoldable pub callIn : State → Turn → Call
@@ -43,7 +43,7 @@ callIn σ h = callOf (σ .mem) (h .before) (gatesOf (σ .table)) (h .contexts) (
 -- lent, and only the calls write it. Any code that meets the contract has only such runs.
 unfoldable pub Ran : State → List Turn → Type 0
 Ran σ [] = Unit {0}
-Ran σ (h ∷ hs) = Gives (h .received) (h .memory) (h .before) (h .output) (step σ (callIn σ h)) × Ran (left h) hs
+Ran σ (h ∷ hs) = Gives (h .returned) (h .memory) (h .before) (h .output) (step σ (callIn σ h)) × Ran (left h) hs
 
 -- the table and the memory after them
 unfoldable pub endOf : State → List Turn → State
@@ -72,8 +72,8 @@ module _ (gs : List Source) (m : List ℕ) where
   meant h = callOf m (h .before) gs (h .contexts) (h .time) (h .frame)
 
   -- the call brings the part p: it passes every check up to 9
-  abbrev pub Brings : Turn → Part → Type 0
-  Brings h p = meant h ≡ part (h .time) p
+  abbrev pub MeansPart : Turn → Part → Type 0
+  MeansPart h p = meant h ≡ part (h .time) p
 
   -- the parts that calls bring under k
   unfoldable pub partsOf : Key → List Turn → List Part
@@ -103,7 +103,7 @@ pub record Supposed (gs : List Source) (m : List ℕ) (k : Key) (d : List ℕ) (
   -- "all its parts are of one cutting in 01's sense, nothing else comes meanwhile under its source, destination, size and tag": what comes
   -- under the key brings a part of the cutting. (Less suffices, as Runs.antt has it: what is refused before check 11, so too for lack of room,
   -- changes nothing.)
-  pub of-cutting : (h : Turn) → In h (mid ++ (c ∷ [])) → named (h .frame) ≡ is k → (p : Part) × In p (C .parts) × Brings gs m h p
+  pub of-cutting : (h : Turn) → In h (mid ++ (c ∷ [])) → named (h .frame) ≡ is k → (p : Part) × In p (C .parts) × MeansPart gs m h p
   -- "and they cover it": with the covering call, and not before it,
   pub cover : Covers (k .size) (partsOf gs m k (mid ++ (c ∷ [])))
   pub not-before : Covers (k .size) (partsOf gs m k mid) → ⊥
@@ -114,9 +114,9 @@ pub record Supposed (gs : List Source) (m : List ℕ) (k : Key) (d : List ℕ) (
 -- the others send."
 pub record Concluded (k : Key) (d : List ℕ) (mid : List Turn) (c : Turn) : Type 0 where
   -- none before it: each answers that the part is kept, and leaves the output;
-  pub none-before : (h : Turn) → In h mid → named (h .frame) ≡ is k → (h .received .answer ≡ Outcome.Kept) × (h .output ≡ h .before)
+  pub none-before : (h : Turn) → In h mid → named (h .frame) ≡ is k → (h .returned .answer ≡ Outcome.Kept) × (h .output ≡ h .before)
   -- the covering call says the datagram's length, and its output starts with the datagram, the rest as it was.
-  pub answer : c .received .answer ≡ Outcome.Out (length d)
+  pub answer : c .returned .answer ≡ Outcome.Out (length d)
   pub output : c .output ≡ d ++ drop (length d) (c .before)
 
 -- A datagram of n bytes that the call h handed out from a slot under k, after the calls hs: it stands at the output's start, and it is made of

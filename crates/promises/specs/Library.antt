@@ -32,7 +32,7 @@ asTurn h = record {
   frame = h .frame;
   contexts = h .contexts;
   before = h .before;
-  received = record { answer = Outcome.Kept; table = h .table };
+  returned = record { answer = Outcome.Kept; table = h .table };
   memory = h .memory;
   output = h .output;
 }

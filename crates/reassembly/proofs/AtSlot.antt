@@ -15,7 +15,7 @@ use Rattle.octets.specs.Refusal.{numberOf}
 use Rattle.octets.specs.declared.refusal.Refusal.{Refusal}
 use Rattle.reassembly.specs.Slots.{isKey, opened}
 use Rattle.marks.proofs.Ranges.{none-marked}
-use Rattle.reassembly.specs.Parts.{Part, partOf, fits, spans, repeatsIn, repeats, place, offer}
+use Rattle.reassembly.specs.Parts.{Part, fits, spans, repeatsIn, repeats, place, offer}
 use Rattle.reassembly.specs.Table.{chunk, splice, stays, takeAt, Lands}
 use Rattle.reassembly.specs.declared.slot.Key.{Key}
 use Rattle.reassembly.specs.declared.slot.Slot.{Slot}
@@ -78,13 +78,12 @@ module _ (s : Slot) (i t : ℕ) (p : Part) (m o : List ℕ) where
           unfolding opened
           finds-key = by-test (isKey (p .key) s) (λ k. rw (q, k) (isKey-key (p .key) s k)) (λ k. rw (q, k) refl)
 
-          pub at-slot : (r : InSlot) (m′ o′ : List ℕ) → Lands r i m m′ o o′ (offer z (chunk i m) (partOf (z .key) (p .unit) (p .sum) (p .bytes))) → Lands r i m m′ o o′ (takeAt s i t p m o)
+          pub at-slot : (r : InSlot) (m′ o′ : List ℕ) → Lands r i m m′ o o′ (offer z (chunk i m) p) → Lands r i m m′ o o′ (takeAt s i t p m o)
           at-slot r m′ o′ L =
-              let M : Lands r i m m′ o o′ (offer z (chunk i m) p) = subst (λ k. Lands r i m m′ o o′ (offer z (chunk i m) (partOf k (p .unit) (p .sum) (p .bytes)))) finds-key L in
               by-test (isKey (p .key) s)
               (λ k.
               let e : z ≡ s = q ∙ rw k refl in
-              rw (take-own k) (subst (λ x. Lands r i m m′ o o′ (offer x (chunk i m) p)) e M))
+              rw (take-own k) (subst (λ x. Lands r i m m′ o o′ (offer x (chunk i m) p)) e L))
               (λ k.
               let e : z ≡ opened (p .key) t = q ∙ rw k refl in
-              rw (take-other k, ← offer-opened (p .key) t (chunk i m) p) (subst (λ x. Lands r i m m′ o o′ (offer x (chunk i m) p)) e M))
+              rw (take-other k, ← offer-opened (p .key) t (chunk i m) p) (subst (λ x. Lands r i m m′ o o′ (offer x (chunk i m) p)) e L))

@@ -17,6 +17,7 @@ use Rattle.reassembly.specs.declared.slot.Key.{Key}
 use Rattle.reassembly.specs.declared.slot.Slot.{Slot}
 use Rattle.reassembly.specs.declared.part.Outcome.{Outcome}
 use Rattle.reassembly.specs.declared.part.InSlot.{InSlot}
+use Rattle.reassembly.specs.declared.part.Part as Beside
 
 -- A fragment: the first part counts as expanded, from byte 0. Its first byte is byte unit * 8. `sum` is read at unit 0 only.
 pub record Part : Type 0 where
@@ -27,6 +28,10 @@ pub record Part : Type 0 where
 
 abbrev pub partOf : Key → ℕ → UdpSum → List ℕ → Part
 partOf k u m bs = record { key = k; unit = u; bytes = bs; sum = m }
+
+-- the code has a part beside its bytes: the two together
+abbrev pub withBytes : Beside.Part → List ℕ → Part
+withBytes p bs = partOf (p .key) (p .offset .0) (p .sum) bs
 
 -- what a call says: that the part was kept, a datagram that is handed out, or a refusal's number
 pub data Reply (A : Type 0) : Type 0 where

@@ -26,6 +26,7 @@ pub use table::Gateway;
 pub use table::Listed;
 pub use table::Received;
 pub use table::Table;
+pub use table::Target;
 pub use table::count_free;
 pub use table::count_held;
 pub use table::is_gateway;

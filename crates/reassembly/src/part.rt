@@ -8,8 +8,9 @@ ghost use Rattle.octets.specs.Read.{choose};
 ghost use Rattle.octets.specs.Write.{put};
 ghost use Rattle.marks.specs.Marks.{unpack, hasIn};
 ghost use Rattle.reassembly.specs.Lists.{sameList};
-ghost use Rattle.reassembly.specs.Parts.{partOf, units, fitsIn, spans, repeatsIn, takenIn, full, handed, Hands};
-ghost use Rattle.reassembly.specs.Parts.{place, offer, Placeable, Does};
+ghost use Rattle.reassembly.specs.Parts.{withBytes, units, fitsIn, spans, repeatsIn, takenIn, full, handed};
+ghost use Rattle.reassembly.specs.Parts.{place, offer, Placeable, Hands, Does};
+use super::slot::Key;
 use super::slot::Slot;
 use expand::checksum::UdpSum;
 use expand::checksum::is_right;
@@ -22,6 +23,14 @@ use sixlowpan::frag::Units;
 const SMALLEST: usize = 40;
 
 pub const LARGEST: usize = 2047;
+
+// A part beside its bytes, which are lent: specs/Parts.antt has the two as one (`withBytes`). `sum` is read of the part
+// at byte 0 only.
+pub struct Part {
+    pub key: Key,
+    pub offset: Units,
+    pub sum: UdpSum,
+}
 
 // What a call comes to: the part is kept; a datagram of so many bytes stands at the output's start; or a refusal.
 pub enum Outcome {
@@ -141,10 +150,12 @@ fn remembered(offset: Units, sum: UdpSum, was: UdpSum) -> UdpSum
 }
 
 // The record with a part of n bytes taken.
-fn with_part(s: Slot, offset: Units, sum: UdpSum, n: usize) -> Slot
+fn with_part(s: Slot, part: Part, n: usize) -> Slot
     requires { ⌜ n ≤ 2047 ⌝ }
-    ensures { λ r. ⌜ r ≡ takenIn s (offset .0) sum n ⌝ }
+    ensures { λ r. ⌜ r ≡ takenIn s (part .offset .0) (part .sum) n ⌝ }
 {
+    let offset = part.offset;
+    let sum = part.sum;
     let u = offset.0 as usize;
     let mut f = s;
     let covered = f.covered;
@@ -184,20 +195,14 @@ fn hand_out(room: &[u8], size: usize, sum: UdpSum, out: &mut [u8]) -> Outcome
 
 // Takes a part that touches nothing taken: its bytes are written at their place and its units marked. Full cover hands
 // the datagram out and frees the slot.
-fn place_part(
-    s: Slot,
-    room: &mut [u8],
-    offset: Units,
-    sum: UdpSum,
-    part: &[u8],
-    out: &mut [u8],
-) -> InSlot
-    requires { ⌜ Placeable (s .key .size) (offset .0) (now part) (now room) (now out) ⌝ }
+fn place_part(s: Slot, room: &mut [u8], part: Part, bytes: &[u8], out: &mut [u8]) -> InSlot
+    requires { ⌜ Placeable (s .key .size) (part .offset .0) (now bytes) (now room) (now out) ⌝ }
     ensures { λ r. ⌜ Does r (now (room .exit)) (now (out .entry)) (now (out .exit))
-        (place s (now (room .entry)) (partOf (s .key) (offset .0) sum (now (part .entry)))) ⌝ }
+        (place s (now (room .entry)) (withBytes part (now (bytes .entry)))) ⌝ }
 {
-    put_part(room, offset.bytes(), part, 0, part.len());
-    let slot = with_part(s, offset, sum, part.len());
+    let offset = part.offset;
+    put_part(room, offset.bytes(), bytes, 0, bytes.len());
+    let slot = with_part(s, part, bytes.len());
     if is_full(slot) {
         let k = slot.key;
         let size = k.size as usize;
@@ -214,25 +219,25 @@ fn place_part(
 pub(crate) fn offer_part(
     s: Slot,
     room: &mut [u8],
-    offset: Units,
-    sum: UdpSum,
-    part: &[u8],
+    part: Part,
+    bytes: &[u8],
     out: &mut [u8],
 ) -> InSlot
-    requires { ⌜ Placeable (s .key .size) (offset .0) (now part) (now room) (now out) ⌝ }
+    requires { ⌜ Placeable (s .key .size) (part .offset .0) (now bytes) (now room) (now out) ⌝ }
     ensures { λ r. ⌜ Does r (now (room .exit)) (now (out .entry)) (now (out .exit))
-        (offer s (now (room .entry)) (partOf (s .key) (offset .0) sum (now (part .entry)))) ⌝ }
+        (offer s (now (room .entry)) (withBytes part (now (bytes .entry)))) ⌝ }
 {
-    if is_repeat(s, room, offset, part) {
+    let offset = part.offset;
+    if is_repeat(s, room, offset, bytes) {
         let slot = s;
         let outcome = Outcome::Kept;
         return InSlot { outcome, slot };
     }
     let covered = s.covered;
-    if is_touching(covered, offset, part.len()) {
+    if is_touching(covered, offset, bytes.len()) {
         let slot = Slot::free();
         let outcome = Outcome::Refused(Refusal::Clash);
         return InSlot { outcome, slot };
     }
-    place_part(s, room, offset, sum, part, out)
+    place_part(s, room, part, bytes, out)
 }

@@ -12,23 +12,22 @@ ghost use Rattle.reassembly.specs.declared.table.Listed.{Listed};
 ghost use Rattle.reassembly.specs.Lists.{count, firstAt, those};
 ghost use Rattle.reassembly.specs.Slots.{sameSource, opened, expired, expire, freeSlot, isKey, present, isFree};
 ghost use Rattle.reassembly.specs.Slots.{gatesOf, isGate, held, free, idleOthers, opening};
-ghost use Rattle.reassembly.specs.Parts.{partOf, offer, Placeable};
+ghost use Rattle.reassembly.specs.Parts.{withBytes, offer, Placeable};
 ghost use Rattle.reassembly.specs.Table.{chunk, withSlots, takeAt, Lands};
 ghost use Rattle.reassembly.specs.Fresh.{seats, fresh, sources, unfit, Begins};
 use super::part::InSlot;
 use super::part::LARGEST;
 use super::part::Outcome;
+use super::part::Part;
 use super::part::fits;
 use super::part::offer_part;
 use super::slot::Key;
 use super::slot::Slot;
 use super::slot::Source;
 use super::slot::is_expired;
-use expand::checksum::UdpSum;
 use ieee802154::Address;
 use ieee802154::PanField;
 use octets::refusal::Refusal;
-use sixlowpan::frag::Units;
 
 // The slots of a table, the bytes of memory that each has, and of all together.
 pub const SLOTS: usize = 8;
@@ -49,6 +48,13 @@ pub struct Table {
     pub slots: [Slot; 8],
     pub last: u64,
     pub gateways: [Source; 4],
+}
+
+// Where a part goes, and when: slot `index`, whose record is `slot`.
+pub struct Target {
+    pub slot: Slot,
+    pub index: usize,
+    pub time: u64,
 }
 
 // The answer of a call, and the table after it.
@@ -345,53 +351,38 @@ pub fn to_open(t: Table, g: Source) -> usize
 }
 
 // A part under the key of slot i, whose record is s; the slot's bytes are lent on.
-fn offer_at(
-    s: Slot,
-    i: usize,
-    mem: &mut [u8],
-    offset: Units,
-    sum: UdpSum,
-    part: &[u8],
-    out: &mut [u8],
-) -> InSlot
+fn offer_at(s: Slot, i: usize, part: Part, bytes: &[u8], mem: &mut [u8], out: &mut [u8]) -> InSlot
     requires { ⌜ (i < 8) × (16384 ≤ length (now mem)) ⌝ }
-    requires { ⌜ Placeable (s .key .size) (offset .0) (now part) (chunk i (now mem)) (now out) ⌝ }
+    requires { ⌜ Placeable (s .key .size) (part .offset .0) (now bytes) (chunk i (now mem)) (now out) ⌝ }
     ensures { λ r. ⌜ Lands r i (now (mem .entry)) (now (mem .exit)) (now (out .entry)) (now (out .exit))
-        (offer s (chunk i (now (mem .entry))) (partOf (s .key) (offset .0) sum (now (part .entry)))) ⌝ }
+        (offer s (chunk i (now (mem .entry))) (withBytes part (now (bytes .entry)))) ⌝ }
 {
     let from = i * SLOT_BYTES;
     let to = from + SLOT_BYTES;
-    offer_part(s, &mut mem[from..to], offset, sum, part, out)
+    offer_part(s, &mut mem[from..to], part, bytes, out)
 }
 
-// A part for slot i, whose record is s, at a time at which s is not old: one under the slot's key is offered to it,
-// any other opens it. Refused, the slot as it was, where too little is lent, the part is none of its datagram, or
-// there is no slot i.
-pub fn take_at(
-    s: Slot,
-    i: usize,
-    time: u64,
-    key: Key,
-    offset: Units,
-    sum: UdpSum,
-    part: &[u8],
-    mem: &mut [u8],
-    out: &mut [u8],
-) -> InSlot
-    ensures { λ r. ⌜ Lands r i (now (mem .entry)) (now (mem .exit)) (now (out .entry)) (now (out .exit))
-        (takeAt s i time (partOf key (offset .0) sum (now (part .entry))) (now (mem .entry)) (now (out .entry))) ⌝ }
+// A part for a slot, at a time at which the slot is not old: one under the slot's key is offered to it, any other
+// opens it. Refused, the slot as it was, where too little is lent, the part is none of its datagram, or there is no
+// such slot.
+pub fn take_at(to: Target, part: Part, bytes: &[u8], mem: &mut [u8], out: &mut [u8]) -> InSlot
+    ensures { λ r. ⌜ Lands r (to .index) (now (mem .entry)) (now (mem .exit)) (now (out .entry)) (now (out .exit))
+        (takeAt (to .slot) (to .index) (to .time) (withBytes part (now (bytes .entry))) (now (mem .entry))
+        (now (out .entry))) ⌝ }
 {
+    let s = to.slot;
+    let key = part.key;
     if is_short(mem.len(), out.len()) {
         return stays(s, Refusal::NoRoom);
     }
-    if !fits(key.size, offset, part.len()) {
+    if !fits(key.size, part.offset, bytes.len()) {
         return stays(s, Refusal::BadPart);
     }
-    if SLOTS <= i {
+    if SLOTS <= to.index {
         return stays(s, Refusal::NoSlot);
     }
-    let z = slot_for(s, key, time);
-    offer_at(z, i, mem, offset, sum, part, out)
+    let z = slot_for(s, key, to.time);
+    offer_at(z, to.index, part, bytes, mem, out)
 }
 
 // The record that a part finds: the slot's under its own key, or that of the slot as it is opened.

@@ -5,24 +5,23 @@
 ghost use mathlib.Core.Path.{_≡_};
 ghost use Prim.Native.Nat.{_≤_};
 ghost use lib.ListN.{length, take};
-ghost use Rattle.reassembly.specs.Parts.{partOf};
+ghost use Rattle.reassembly.specs.Parts.{withBytes};
 ghost use Rattle.reassembly.specs.Table.{takeAt, Lands};
 ghost use Rattle.receiver.specs.Carried.{partIn};
 ghost use Rattle.receiver.specs.Steps.{ofJudged, judged, isTaken, atOnce, openSlot, newSlot, Told};
 use super::Carried;
 use super::What;
-use expand::checksum::UdpSum;
 use expand::copy::put_part;
 use octets::refusal::Refusal;
 use reassembly::InSlot;
-use reassembly::Key;
 use reassembly::Outcome;
 use reassembly::Slot;
 use reassembly::Table;
+use reassembly::Target;
 use reassembly::is_short;
+use reassembly::part::Part;
 use reassembly::part::fits;
 use reassembly::take_at;
-use sixlowpan::frag::Units;
 
 // Whether a call is taken, before its frame is looked at.
 pub enum Judged {
@@ -75,25 +74,21 @@ pub fn to_open(table: Table, c: Carried) -> usize
     reassembly::to_open(table, g)
 }
 
-// A part for slot i, whose record is s: the first n of these bytes, which are lent whole so that they are not copied.
+// A part for a slot: the first n of these bytes, which are lent whole so that they are not copied.
 fn take_first(
-    s: Slot,
-    i: usize,
-    time: u64,
-    key: Key,
-    offset: Units,
-    sum: UdpSum,
+    to: Target,
+    part: Part,
     n: usize,
     bytes: &[u8],
     mem: &mut [u8],
     out: &mut [u8],
 ) -> InSlot
     requires { ⌜ n ≤ length (now bytes) ⌝ }
-    ensures { λ r. ⌜ Lands r i (now (mem .entry)) (now (mem .exit)) (now (out .entry)) (now (out .exit))
-        (takeAt s i time (partOf key (offset .0) sum (take n (now (bytes .entry)))) (now (mem .entry))
+    ensures { λ r. ⌜ Lands r (to .index) (now (mem .entry)) (now (mem .exit)) (now (out .entry)) (now (out .exit))
+        (takeAt (to .slot) (to .index) (to .time) (withBytes part (take n (now (bytes .entry)))) (now (mem .entry))
         (now (out .entry))) ⌝ }
 {
-    take_at(s, i, time, key, offset, sum, &bytes[0..n], mem, out)
+    take_at(to, part, &bytes[0..n], mem, out)
 }
 
 // The part that a frame carries, for slot i, whose record is s.
@@ -105,7 +100,13 @@ pub fn put_at(s: Slot, i: usize, time: u64, c: Carried, mem: &mut [u8], out: &mu
     let key = c.key;
     let offset = c.offset;
     let sum = c.sum;
-    take_first(s, i, time, key, offset, sum, n, &c.bytes, mem, out)
+    let part = Part { key, offset, sum };
+    let to = Target {
+        slot: s,
+        index: i,
+        time,
+    };
+    take_first(to, part, n, &c.bytes, mem, out)
 }
 
 // The answer to a frame that no slot is for: a whole datagram goes to the output's start, a part is refused, 10.

@@ -47,7 +47,7 @@ use Rattle.octets.specs.Read.{choose}
 use Rattle.reassembly.specs.declared.table.Table.{Table}
 use Rattle.reassembly.proofs.table.Table as T
 use Rattle.reassembly.proofs.table.Table.Laws as T′
-use Rattle.lift.specs.Face.{begun, tableBegun}
+use Rattle.lift.specs.Face.{listAnswer, tableBegun}
 use Rattle.lift.specs.declared.Lifted.{Lifted}
 use Rattle.lift.proofs.Lifted as S
 use Rattle.lift.proofs.Lifted.Laws as S′
@@ -86,7 +86,7 @@ second-is false y t z e k = e
 
 -- what `begin` says of its answer
 abbrev Begins : List ℕ → Lifted → Type 0
-Begins l r = (r .answer ≡ begun l) × ((t : Table) → choose (eqb (r .answer) 0) (r .table) t ≡ tableBegun t l)
+Begins l r = (r .answer ≡ listAnswer l) × ((t : Table) → choose (eqb (r .answer) 0) (r .table) t ≡ tableBegun t l)
 
 abbrev stayed : Stays (f.ended .signature .params) (f.ended .kept)
 stayed = (stay-ref (0 ∷ []) tt (plain (λ _. T.the-row)), (stay-none-slice (1 ∷ []) tt (plain (λ _. u64)) yes, tt))
@@ -121,7 +121,7 @@ module _ {M : Type 1} (𝓤 : URA M) (H : Heap 𝓤) (A : Atoms 𝓤) (W : Given
 
   -- what the contract says of the result and of the table after it
   abbrev Said : ℕ → Table → Type 0
-  Said r y = (r ≡ begun (gw .now)) × (y ≡ tableBegun h (gw .now))
+  Said r y = (r ≡ listAnswer (gw .now)) × (y ≡ tableBegun h (gw .now))
 
   -- what is owned while the borrow is closed, at the table y
   abbrev Closed : Table → List (Item 𝓤)

@@ -65,7 +65,7 @@ use Rattle.receiver.proofs.Carried.read.Symbol as read-def
 use Rattle.receiver.proofs.Carried.read.Symbol.{name as #receiver·Carried·read}
 use Rattle.receiver.proofs.Carried.read.Met as read-thm
 use Rattle.receiver.specs.Steps.{isTaken, atOnce}
-use Rattle.lift.specs.InPlace.{Told, TakesIn, ReceivesIn}
+use Rattle.lift.specs.InPlace.{ToldPacked, TakesIn, ReceivesIn}
 use Rattle.lift.proofs.InPlace.{timed-part, timed-other}
 use Rattle.receiver.proofs.call.is_taken as is-taken
 use Rattle.receiver.proofs.call.is_taken.Symbol as is-taken-def
@@ -314,8 +314,8 @@ module _ {M : Type 1} (𝓤 : URA M) (H : Heap 𝓤) (A : Atoms 𝓤) (W : Given
           calls-at ! fm (Answer 𝓤 H A at-mem run) known-answer (to-answer c u) (and-then ! (load ! (from ! (stop !)) (look ! 25 refl)) (and-then ! (load ! (from ! (stop !)) (look ! 7 refl)) (no-more !))) (λ v.
           use1 W (later (some (λ (r : ℕ). ((‵ (flft κ₄ q₄) ⊛ ‵ ftrue) ⊛ ‵ (u32 .own r (v ∷ []))) ⊛ raw (ensured 𝓤 H A answer.ended (answer.clauses 𝓤 H A at-mem run) (κ₄, tt) (x-answer c u) tt r)))) (id⊢ 𝓤 _) $ await ! tt $ pick ! (λ r.
           -- what it ensures, at some last list
-          split ! $ move ! (1 ∷ []) $ use1 W (some (λ (zs : Lasts answer.ended (κ₄, tt) (x-answer c u)). ‵ (lasts answer.ended (κ₄, tt) (x-answer c u) zs) ⊛ raw (fact 𝓤 (Told r (ou .now) (zs .1 .0) (atOnce c (ou .now)))))) (id⊢ 𝓤 _) $ pick ! (λ zs.
-          split ! $ move ! (1 ∷ []) $ heard ! (Told r (ou .now) (zs .1 .0) (atOnce c (ou .now))) (λ e. fsplit ! $ drop ! $ fsplit ! $ fsplit ! $ move ! (1 ∷ []) $ feqL ! (λ lo.
+          split ! $ move ! (1 ∷ []) $ use1 W (some (λ (zs : Lasts answer.ended (κ₄, tt) (x-answer c u)). ‵ (lasts answer.ended (κ₄, tt) (x-answer c u) zs) ⊛ raw (fact 𝓤 (ToldPacked r (ou .now) (zs .1 .0) (atOnce c (ou .now)))))) (id⊢ 𝓤 _) $ pick ! (λ zs.
+          split ! $ move ! (1 ∷ []) $ heard ! (ToldPacked r (ou .now) (zs .1 .0) (atOnce c (ou .now))) (λ e. fsplit ! $ drop ! $ fsplit ! $ fsplit ! $ move ! (1 ∷ []) $ feqL ! (λ lo.
           -- [out's last list; true; out's token and the answer; mem's token; mem's last list; Looks; Obs; Bor; Token; _16 at 9; …]
           move ! (2 ∷ []) $ split ! $ move ! (1 ∷ []) $ peeks ! u32 (Is u32) (shows 𝓤 H A u32) r (v ∷ []) (λ are.
           -- [the answer; out's token; out's last list; true; mem's token; mem's last list; Looks; Obs; Bor; Token; _16 at 10; …; _0 at 42; …; Contexts; Frame]

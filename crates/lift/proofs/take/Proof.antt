@@ -57,7 +57,7 @@ use Rattle.lift.specs.InPlace.{PutAt, TakesIn}
 use Rattle.reassembly.specs.declared.slot.Slot.{Slot}
 use Rattle.reassembly.specs.declared.table.Table.{Table}
 use Rattle.receiver.specs.declared.Carried.{Carried}
-use Rattle.lift.specs.declared.Put.{Put}
+use Rattle.lift.specs.declared.SlotAnswer.{SlotAnswer}
 use Rattle.reassembly.proofs.table.Table as T
 use Rattle.reassembly.proofs.table.Table.Laws as T′
 use Rattle.reassembly.proofs.slot.Slot as S
@@ -65,8 +65,8 @@ use Rattle.reassembly.proofs.slot.Slot.Laws as S′
 use Rattle.reassembly.proofs.slot.Source.Laws as N′
 use Rattle.receiver.proofs.Carried as Cd
 use Rattle.receiver.proofs.Carried.Laws as Cd′
-use Rattle.lift.proofs.Put as P
-use Rattle.lift.proofs.Put.Laws as P′
+use Rattle.lift.proofs.SlotAnswer as P
+use Rattle.lift.proofs.SlotAnswer.Laws as P′
 use Rattle.receiver.proofs.Turns.{withSlot, by-opening, by-key}
 use Rattle.lift.proofs.InPlace.{take-slot, take-none}
 use Rattle.lift.proofs.Items.{set-map, unraw, item, array-length, array-at, array-set, big-lit, kept}
@@ -124,10 +124,10 @@ module _ (d : Table) (vs : List Val) (p : Is T.the-row d vs) where
       with-i = array-set (S.the-field .row) (S.the-field .into) 8 (d .slots) (p .0 .0) (p .1 .1 .0) i s (S′.lowered s) q
 
 -- what an answer says of its two fields
-put-slot : (r : Put) (vs : List Val) → Is P.the-row r vs → Is S.the-row (r .slot) (low-slot (r .slot))
+put-slot : (r : SlotAnswer) (vs : List Val) → Is P.the-row r vs → Is S.the-row (r .slot) (low-slot (r .slot))
 put-slot r vs p = settle-slot (r .slot) _ (LL.owed P.the-type P′.the-laws r vs p .0)
 
-put-answer : (r : Put) (vs : List Val) → Is P.the-row r vs → r .answer < 2 ^ 32
+put-answer : (r : SlotAnswer) (vs : List Val) → Is P.the-row r vs → r .answer < 2 ^ 32
 put-answer r vs p = LL.owed P.the-type P′.the-laws r vs p .1 .0 .1
 
 -- ---- no slot was found, or one was
@@ -247,7 +247,7 @@ module _ {M : Type 1} (𝓤 : URA M) (H : Heap 𝓤) (A : Atoms 𝓤) (W : Given
       owned ! S.the-row (Is S.the-row) (LL.makes S.the-type S′.the-plain 𝓤 H A) (slotAt h i) _ gs $ fjoin ! $ move ! (1 ∷ 0 ∷ []) $ join ! $ frame ! $ done !
 
   -- what `put_at` says of its answer and of the last lists
-  abbrev Said : ℕ → Put → List ℕ → List ℕ → Type 0
+  abbrev Said : ℕ → SlotAnswer → List ℕ → List ℕ → Type 0
   Said i r ms os = PutAt r i (me .now) ms (ou .now) os (takeAt (slotAt h i) i n (partIn c) (me .now) (ou .now))
 
   -- the table's machine value with other slots
@@ -333,7 +333,7 @@ module _ {M : Type 1} (𝓤 : URA M) (H : Heap 𝓤) (A : Atoms 𝓤) (W : Given
         -- [what put_at asks; the table's cell; its open borrow; obs; auth; _21 at 5; …]
         calls-at ! fm (PutIn 𝓤 H A at-mem run) known-put (to-put i)
         (and-then ! (load ! (from ! (stop !)) (look ! 33 refl)) (and-then ! (load ! (from ! (stop !)) (look ! 35 refl)) (and-then ! (load ! (from ! (stop !)) (look ! 43 refl)) (and-then ! (load ! (from ! (stop !)) (look ! 41 refl)) (and-then ! (load ! (from ! (stop !)) (look ! 13 refl)) (and-then ! (load ! (from ! (stop !)) (look ! 9 refl)) (no-more !))))))) (λ u.
-        use1 W (later (some (λ (r : Put). (Tail ⊛ ‵ (P.the-row .own r (u ∷ []))) ⊛ raw (ensured 𝓤 H A put.ended (put.clauses 𝓤 H A at-mem run) κs′ (x′ i) tt r)))) (id⊢ 𝓤 _) $ await ! tt $ pick ! (λ r.
+        use1 W (later (some (λ (r : SlotAnswer). (Tail ⊛ ‵ (P.the-row .own r (u ∷ []))) ⊛ raw (ensured 𝓤 H A put.ended (put.clauses 𝓤 H A at-mem run) κs′ (x′ i) tt r)))) (id⊢ 𝓤 _) $ await ! tt $ pick ! (λ r.
         -- what it ensures, at some last lists
         split ! $ move ! (1 ∷ []) $ use1 W (some (λ (zs : Lasts put.ended κs′ (x′ i)). ‵ (lasts put.ended κs′ (x′ i) zs) ⊛ raw (fact 𝓤 (Said i r (zs .1 .1 .1 .1 .0) (zs .1 .1 .1 .1 .1 .0))))) (id⊢ 𝓤 _) $ pick ! (λ zs.
         split ! $ move ! (1 ∷ []) $ heard ! (Said i r (zs .1 .1 .1 .1 .0) (zs .1 .1 .1 .1 .1 .0)) (λ said. fsplit ! $ drop ! $ fsplit ! $ drop ! $ fsplit ! $ drop ! $ fsplit ! $ drop ! $

@@ -32,11 +32,12 @@ returns : tie.Need-returns
 unfolding takenIn
 returns c =
     let b = c .before .before .before .before in
-    let a = c .before .before .before .before .before .before .before .before .args in
-    let n : a .offset .0 + b .before .units-of .result - a .offset .0 ≡ units (a .n) = omega (arith, b .before .units-of .ensures .0) in
-    let one : a .offset .0 + 1 - a .offset .0 ≡ 1 = omega arith in
-    let x : b .mark .result ≡ pack (fill (a .offset .0) (units (a .n)) (unpack (a .s .covered))) = rw n at (b .mark .ensures) in
-    let y : c .before .before .mark2 .result ≡ pack (fill (a .offset .0) 1 (unpack (a .s .starts))) = rw one at (c .before .before .mark2 .ensures) in
+    let a = c .before .before .before .before .before .before .before .before .before .before .args in
+    let u = a .part .offset .0 in
+    let n : u + b .before .units-of .result - u ≡ units (a .n) = omega (arith, b .before .units-of .ensures .0) in
+    let one : u + 1 - u ≡ 1 = omega arith in
+    let x : b .mark .result ≡ pack (fill u (units (a .n)) (unpack (a .s .covered))) = rw n at (b .mark .ensures) in
+    let y : c .before .before .mark2 .result ≡ pack (fill u 1 (unpack (a .s .starts))) = rw one at (c .before .before .mark2 .ensures) in
     rw (x, y, c .remembered .ensures)
 
 pub with-part-spec : {M : Type 1} → statement M

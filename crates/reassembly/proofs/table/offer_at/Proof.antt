@@ -2,7 +2,7 @@ use native.Mathlib.Omega.{arith}
 use mathlib.Core.List.{List}
 use Prim.Native.Nat.{ℕ, _+_, _*_, _≤_}
 use lib.ListN.{length}
-use Rattle.reassembly.specs.Parts.{partOf, offer}
+use Rattle.reassembly.specs.Parts.{withBytes, offer}
 use Rattle.reassembly.proofs.Parts.{offer-length}
 use Rattle.reassembly.proofs.Memory.{lands}
 use borrow.Author.Needs.{needs}
@@ -36,7 +36,7 @@ same-length-2 c = search needs
 returns : tie.Need-returns
 returns c =
     let a = c .before .before .before .before .before .before .before .before .before .before .args in
-    let p = partOf (a .s .key) (a .offset .0) (a .sum) (a .part .now) in
+    let p = withBytes (a .part) (a .bytes .now) in
     let h : a .i * 2048 + 2048 ≤ length (a .mem .now) = omega (arith, c .before .before .before .before .before .before .before .before .before .before .pre .0) in
     lands (λ (b : List ℕ). offer (a .s) b p) (λ b. offer-length (a .s) b p) _ (a .i) (a .mem .now) _ (a .out .now) _ h (c .before .before .before .before .offer-part .ensures)
 
