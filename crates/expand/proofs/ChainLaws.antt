@@ -16,6 +16,7 @@ use Rattle.octets.specs.declared.field.WordField.{WordField}
 use Rattle.octets.specs.declared.ipv6.Ipv6Addr.{Ipv6Addr}
 use Rattle.octets.proofs.Spans.{Starts, First, not-refused, starts-then, starts-byte, starts-be16, spans-byte, spans-skip}
 use Rattle.octets.proofs.Puts.{more}
+use Rattle.octets.specs.declared.cursor.Cursor.{Cursor}
 use Rattle.ieee802154.specs.Address.{flip57}
 use Rattle.ieee802154.specs.declared.addr.AddressField.{AddressField}
 use Rattle.sixlowpan.specs.Nhc.{nhcOf, nhc}
@@ -545,7 +546,10 @@ module _ (w : Way) (ctx s l : List ℕ) (ls ld : AddressField) (at : ℕ) (y : P
   unfolding headerThen
   header-refused e g = rw (← i, ← j, sym p ∙ ap ofParsed g) (record { answer = refl; bytes = refl })
 
-  module _ (h : Repr) (to : ℕ) (v : Way) (g : y ≡ Parsed.Header h to) (a : v ≡ entered h w) where
+  module _ (h : Repr) (d : Cursor) (v : Way) (g : y ≡ Parsed.Header h d) (a : v ≡ entered h w) where
+    abbrev to : ℕ
+    to = d .at
+
     abbrev behind-it : Read Chain
     behind-it = behindNext (h .«next_header») (chain (w .left) ctx (within h)) s to
 
@@ -574,8 +578,8 @@ inner-facts {n = n} left s at p g =
     let t = link-steps left s at innerLink n (sym p ∙ ap (λ z. ofLink z s) g) in
     (t .reach, t .ends, t .wants)
 
-pub header-facts : {y : Parsed} {h : Repr} {n : ℕ} (ctx s : List ℕ) (ls ld : AddressField) (at : ℕ) → ofParsed y ≡ iphc ctx ls ld s at → y ≡ Parsed.Header h n → (at + 2 ≤ n) × (n ≤ length s)
-header-facts {h = h} {n = n} ctx s ls ld at p g = iphc-reach ctx ls ld s at h n (sym p ∙ ap ofParsed g)
+pub header-facts : {y : Parsed} {h : Repr} {d : Cursor} (ctx s : List ℕ) (ls ld : AddressField) (at : ℕ) → ofParsed y ≡ iphc ctx ls ld s at → y ≡ Parsed.Header h d → (at + 2 ≤ d .at) × (d .at ≤ length s)
+header-facts {h = h} {d = d} ctx s ls ld at p g = iphc-reach ctx ls ld s at h (d .at) (sym p ∙ ap ofParsed g)
 
 -- ---- RFC 6282, 3.2.2: the identifier of the address outside, its last 64 bits, whatever they are
 flip-back : (x : ℕ) → flip57 (flip57 x) ≡ x

@@ -14,6 +14,7 @@ use Rattle.octets.specs.declared.refusal.Refusal.{Refusal}
 use Rattle.octets.specs.declared.field.WordField.{WordField}
 use Rattle.octets.proofs.Spans.{not-refused}
 use Rattle.octets.proofs.Puts.{put-front}
+use Rattle.octets.specs.declared.cursor.Cursor.{Cursor}
 use Rattle.expand.proofs.CopyLaws.{before}
 use Rattle.expand.proofs.Inverting.{value-is}
 use Rattle.ieee802154.specs.declared.addr.AddressField.{AddressField}
@@ -148,17 +149,17 @@ module _ (ctx : List ℕ) (ls ld : AddressField) (size : WordField) (s : List �
   unfolding expansion
   expansion-long k = rw (lt-ltb 127 (length s) k) refl
 
-  pub expansion-on : (y : Parsed) (h : Repr) (n : ℕ) → length s ≤ 127 → ofParsed y ≡ iphc ctx ls ld s at → y ≡ Parsed.Header h n → expansion ctx ls ld size s at ≡ headed ctx size h s n
+  pub expansion-on : (y : Parsed) (h : Repr) (d : Cursor) → length s ≤ 127 → ofParsed y ≡ iphc ctx ls ld s at → y ≡ Parsed.Header h d → expansion ctx ls ld size s at ≡ headed ctx size h s (d .at)
   unfolding expansion chained headerThen headed
-  expansion-on y h n k p q = rw (le-ltb 127 (length s) k, ← p, q) (join-go size h (behindNext (h .«next_header») (chain 7 ctx (within h)) s n))
+  expansion-on y h d k p q = rw (le-ltb 127 (length s) k, ← p, q) (join-go size h (behindNext (h .«next_header») (chain 7 ctx (within h)) s (d .at)))
 
   pub expansion-no : (y : Parsed) (e : Refusal) → length s ≤ 127 → ofParsed y ≡ iphc ctx ls ld s at → y ≡ Parsed.Refused e → expansion ctx ls ld size s at ≡ refused (numberOf e)
   unfolding expansion chained headerThen
   expansion-no y e k p q = rw (le-ltb 127 (length s) k, ← p, q) refl
 
 -- f: what is answered, or what is written
-pub on-expansion : {X : Type 0} (f : Answer Expansion → X) (r : X) (y : Parsed) (h : Repr) (n : ℕ) (ctx : List ℕ) (ls ld : AddressField) (size : WordField) (s : List ℕ) (at : ℕ) → length s ≤ 127 → ofParsed y ≡ iphc ctx ls ld s at → y ≡ Parsed.Header h n → r ≡ f (headed ctx size h s n) → r ≡ f (expansion ctx ls ld size s at)
-on-expansion f r y h n ctx ls ld size s at k p q e = e ∙ ap f (sym (expansion-on ctx ls ld size s at y h n k p q))
+pub on-expansion : {X : Type 0} (f : Answer Expansion → X) (r : X) (y : Parsed) (h : Repr) (d : Cursor) (ctx : List ℕ) (ls ld : AddressField) (size : WordField) (s : List ℕ) (at : ℕ) → length s ≤ 127 → ofParsed y ≡ iphc ctx ls ld s at → y ≡ Parsed.Header h d → r ≡ f (headed ctx size h s (d .at)) → r ≡ f (expansion ctx ls ld size s at)
+on-expansion f r y h d ctx ls ld size s at k p q e = e ∙ ap f (sym (expansion-on ctx ls ld size s at y h d k p q))
 
 pub no-expansion : {X : Type 0} (f : Answer Expansion → X) (r : X) (y : Parsed) (e : Refusal) (ctx : List ℕ) (ls ld : AddressField) (size : WordField) (s : List ℕ) (at : ℕ) → length s ≤ 127 → ofParsed y ≡ iphc ctx ls ld s at → y ≡ Parsed.Refused e → r ≡ f (refused (numberOf e)) → r ≡ f (expansion ctx ls ld size s at)
 no-expansion f r y e ctx ls ld size s at k p q g = g ∙ ap f (sym (expansion-no ctx ls ld size s at y e k p q))

@@ -152,26 +152,25 @@ fn read_udp(frame: &[u8], c: Cursor) -> Step
     ensures { λ r. ⌜ ofLink r (now (frame .entry)) ≡ udpStep (now (frame .entry)) (c .at) ⌝ }
 {
     match UdpNhcRepr::read(frame, c) {
-        UdpParsed::Header(h, n) => Step::Udp(h, n),
+        UdpParsed::Header(h, d) => Step::Udp(h, d.at),
         UdpParsed::Refused(e) => Step::Refused(e),
     }
 }
 
 // What follows next header and length.
-fn read_data(frame: &[u8], id: ExtHeaderId, h: ExtHeaderRepr, from: usize) -> Step
-    ensures { λ r. ⌜ ofLink r (now (frame .entry)) ≡ extData id h (now (frame .entry)) from ⌝ }
+fn read_data(frame: &[u8], id: ExtHeaderId, h: ExtHeaderRepr, c: Cursor) -> Step
+    ensures { λ r. ⌜ ofLink r (now (frame .entry)) ≡ extData id h (now (frame .entry)) (c .at) ⌝ }
 {
     if is_bad(id, h.length) {
         return Step::Refused(Refusal::Unsupported);
     }
     let next = h.next_header;
     let number = number_of(id);
-    let c = Cursor { at: from };
     match c.skip(frame, h.length as usize) {
         Skipped::Past(d) => Step::Extension {
             number,
             next,
-            from,
+            from: c.at,
             to: d.at,
         },
         Skipped::Refused(e) => Step::Refused(e),
@@ -182,7 +181,7 @@ fn read_body(frame: &[u8], id: ExtHeaderId, c: Cursor) -> Step
     ensures { λ r. ⌜ ofLink r (now (frame .entry)) ≡ extBody id (now (frame .entry)) (c .at) ⌝ }
 {
     match ExtHeaderRepr::read(frame, c) {
-        ExtParsed::Header(h, from) => read_data(frame, id, h, from),
+        ExtParsed::Header(h, d) => read_data(frame, id, h, d),
         ExtParsed::Refused(e) => Step::Refused(e),
     }
 }
@@ -432,13 +431,13 @@ pub(crate) fn header(frame: &[u8], c: Cursor, contexts: &[u8], w: Way, out: &mut
     let src = w.src;
     let dst = w.dst;
     match Repr::read(frame, c, inside(src), inside(dst), contexts) {
-        Parsed::Header(ip, at) => {
+        Parsed::Header(ip, d) => {
             let next = ip.next_header;
             let o = w.at;
             let size = w.size;
-            match chain(frame, next, Cursor { at }, contexts, w.within(ip), out) {
+            match chain(frame, next, d, contexts, w.within(ip), out) {
                 Walked::End { len, sum } => {
-                    let number = next_number(frame, next, at);
+                    let number = next_number(frame, next, d.at);
                     put_ipv6(
                         out,
                         o as usize,

@@ -46,15 +46,15 @@ fn put_elided(buf: &mut [u8], size: WordField, n: usize, m: UdpSum)
 fn expand_headed(
     frame: &[u8],
     ip: Repr,
-    at: usize,
+    c: Cursor,
     contexts: &[u8],
     size: WordField,
     out: &mut [u8],
 ) -> Expanded
     requires { ⌜ length (now frame) ≤ 127 ⌝ }
-    ensures { λ r. ⌜ (ofExpanded r ≡ answered (headed (now (contexts .entry)) size ip (now (frame .entry)) at)
+    ensures { λ r. ⌜ (ofExpanded r ≡ answered (headed (now (contexts .entry)) size ip (now (frame .entry)) (c .at))
         (now (out .entry)))
-        × (now (out .exit) ≡ written (headed (now (contexts .entry)) size ip (now (frame .entry)) at)
+        × (now (out .exit) ≡ written (headed (now (contexts .entry)) size ip (now (frame .entry)) (c .at))
         (now (out .entry))) ⌝ }
 {
     let next = ip.next_header;
@@ -69,9 +69,9 @@ fn expand_headed(
         at: 40,
         size,
     };
-    match chain(frame, next, Cursor { at }, contexts, w, out) {
+    match chain(frame, next, c, contexts, w, out) {
         Walked::End { len, sum } => {
-            let number = next_number(frame, next, at);
+            let number = next_number(frame, next, c.at);
             put_ipv6(out, 0, ip, number, less(total_of(size, len), 40));
             let len = len as usize;
             put_elided(out, size, len, sum);
@@ -100,7 +100,7 @@ pub fn expand(
         return Expanded::Refused(Refusal::BadLength);
     }
     match Repr::read(frame, c, ll_src, ll_dst, contexts) {
-        Parsed::Header(ip, at) => expand_headed(frame, ip, at, contexts, size, out),
+        Parsed::Header(ip, d) => expand_headed(frame, ip, d, contexts, size, out),
         Parsed::Refused(e) => Expanded::Refused(e),
     }
 }

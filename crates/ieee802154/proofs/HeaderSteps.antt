@@ -7,6 +7,7 @@ use Rattle.octets.specs.Read.{Answer, refused, Placed, Read, andThen}
 use Rattle.octets.specs.Refusal.{numberOf}
 use Rattle.octets.specs.declared.refusal.Refusal.{Refusal}
 use Rattle.octets.proofs.Steps.{on-is, on-refused}
+use Rattle.octets.specs.declared.cursor.Cursor.{Cursor}
 use Rattle.ieee802154.specs.Address.{ofAddress}
 use Rattle.ieee802154.specs.Mac.{ofParsed, mac}
 use Rattle.ieee802154.specs.declared.addr.Address.{Address}
@@ -15,8 +16,8 @@ use Rattle.ieee802154.specs.declared.header.Repr.{Repr}
 use Rattle.ieee802154.specs.declared.header.Parsed.{Parsed}
 use Rattle.ieee802154.proofs.Lengths.{mac-length}
 
-pub on-mac : {B : Type 0} {r : Answer B} {y : Parsed} {h : Repr} {n : ℕ} (m : Read Repr) (k : Placed Repr → Answer B) → ofParsed y ≡ m → y ≡ Parsed.Header h n → r ≡ k (record { value = h; next = n }) → r ≡ andThen m k
-on-mac {h = h} {n = n} m k p q e = on-is ofParsed (Parsed.Header h n) (record { value = h; next = n }) m k refl p q e
+pub on-mac : {B : Type 0} {r : Answer B} {y : Parsed} {h : Repr} {c : Cursor} (m : Read Repr) (k : Placed Repr → Answer B) → ofParsed y ≡ m → y ≡ Parsed.Header h c → r ≡ k (record { value = h; next = c .at }) → r ≡ andThen m k
+on-mac {h = h} {c = c} m k p q e = on-is ofParsed (Parsed.Header h c) (record { value = h; next = c .at }) m k refl p q e
 
 pub no-mac : {B : Type 0} {y : Parsed} {e : Refusal} (m : Read Repr) (k : Placed Repr → Answer B) → ofParsed y ≡ m → y ≡ Parsed.Refused e → refused (numberOf e) ≡ andThen m k
 no-mac {e = e} m k p q = on-refused ofParsed (Parsed.Refused e) (numberOf e) m k refl p q
@@ -28,7 +29,7 @@ pub no-from-bytes : {B : Type 0} {y : AddressAnswer} {e : Refusal} (m : Answer A
 no-from-bytes {e = e} m k p q = on-refused ofAddress (AddressAnswer.Refused e) (numberOf e) m k refl p q
 
 -- the length that `parse` answers is within its bytes
-pub parsed-within : {y : Parsed} {h : Repr} {n : ℕ} (s : List ℕ) → ofParsed y ≡ mac s → y ≡ Parsed.Header h n → n ≤ length s
-parsed-within {h = h} {n = n} s p q = mac-length s h n (sym p ∙ ap ofParsed q) .1
+pub parsed-within : {y : Parsed} {h : Repr} {c : Cursor} (s : List ℕ) → ofParsed y ≡ mac s → y ≡ Parsed.Header h c → c .at ≤ length s
+parsed-within {h = h} {c = c} s p q = mac-length s h (c .at) (sym p ∙ ap ofParsed q) .1
 
 pub ruleset header-steps = (on-mac, no-mac, on-from-bytes, no-from-bytes)

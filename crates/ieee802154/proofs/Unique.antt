@@ -11,10 +11,10 @@ use Rattle.ieee802154.specs.declared.header.Repr.{Repr}
 use Rattle.ieee802154.specs.declared.header.Parsed.{Parsed}
 
 pub parsed-one : Injective ofParsed
-parsed-one = one ofParsed (λ (p : Placed Repr). Parsed.Header (p .value) (p .next)) Parsed.Refused inv
+parsed-one = one ofParsed (λ (p : Placed Repr). Parsed.Header (p .value) (record { at = p .next })) Parsed.Refused inv
   where
-    inv : (y : Parsed) → back (λ (p : Placed Repr). Parsed.Header (p .value) (p .next)) Parsed.Refused (ofParsed y) ≡ y
-    inv (Parsed.Header h n) = refl
+    inv : (y : Parsed) → back (λ (p : Placed Repr). Parsed.Header (p .value) (record { at = p .next })) Parsed.Refused (ofParsed y) ≡ y
+    inv (Parsed.Header h c) = refl
     inv (Parsed.Refused e) = ap Parsed.Refused (refusal-back e)
 
 pub address-one : Injective ofAddress

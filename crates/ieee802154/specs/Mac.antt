@@ -19,7 +19,7 @@ use Rattle.ieee802154.specs.declared.header.Parsed.{Parsed}
 use Rattle.ieee802154.specs.declared.header.SequenceRead.{SequenceRead}
 
 abbrev pub ofParsed : Parsed → Read Repr
-ofParsed (Parsed.Header h n) = got h n
+ofParsed (Parsed.Header h c) = got h (c .at)
 ofParsed (Parsed.Refused e) = refused (numberOf e)
 
 abbrev pub ofSequence : SequenceRead → Read ByteField

@@ -40,7 +40,7 @@ pub struct Repr {
 
 // A header and its length, or why there is none.
 pub enum Parsed {
-    Header(Repr, usize),
+    Header(Repr, Cursor),
     Refused(Refusal),
 }
 
@@ -102,7 +102,7 @@ impl Repr {
         if k.supported() {
             match read_addressing(buf, c, k) {
                 AddressingRead::Field(a, d) => match skip_auxiliary(buf, d, k.security_enabled) {
-                    Skipped::Past(e) => Parsed::Header(Repr::of(k, sequence, a), e.at),
+                    Skipped::Past(e) => Parsed::Header(Repr::of(k, sequence, a), e),
                     Skipped::Refused(e) => Parsed::Refused(e),
                 },
                 AddressingRead::Refused(e) => Parsed::Refused(e),

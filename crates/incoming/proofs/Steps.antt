@@ -16,6 +16,7 @@ use Rattle.octets.specs.declared.refusal.Refusal.the-variants.{BadPart, NoRoom}
 use Rattle.octets.specs.declared.field.WordField.{WordField}
 use Rattle.octets.proofs.Steps.{on-is, on-refused}
 use Rattle.octets.proofs.Spans.{not-refused}
+use Rattle.octets.specs.declared.cursor.Cursor.{Cursor}
 use Rattle.ieee802154.specs.Mac.{mac}
 use Rattle.ieee802154.specs.declared.addr.AddressField.{AddressField}
 use Rattle.ieee802154.specs.declared.header.Repr as Mac
@@ -170,12 +171,12 @@ unfolding piece
 later-some ctx a s room h size tag next o q z i = rw (q, ne-eqb (o .0) 0 z) (record { answer = refl; within = (i, omega (arith, z)); scratch = rw (ne-eqb (o .0) 0 z) refl })
 
 -- ---- by the fragment header, and by the dispatch
-pub header-within : (s : List ℕ) (at n : ℕ) (h : Repr) (y : Parsed) → ofParsed y ≡ frag s at → y ≡ Parsed.Header h n → n ≤ length s
-header-within s at n h y p q = frag-within s at n h (sym p ∙ ap ofParsed q)
+pub header-within : (s : List ℕ) (at : ℕ) (c : Cursor) (h : Repr) (y : Parsed) → ofParsed y ≡ frag s at → y ≡ Parsed.Header h c → c .at ≤ length s
+header-within s at c h y p q = frag-within s at (c .at) h (sym p ∙ ap ofParsed q)
 
-pub on-fragment : (r : Payload) (ctx : List ℕ) (a : Arrival) (s room l : List ℕ) (y : Parsed) (h : Repr) (n : ℕ) → ofParsed y ≡ frag s (a .at) → y ≡ Parsed.Header h n → Brings r room l s (piece ctx a h n s) → Brings r room l s (fragment ctx a s)
+pub on-fragment : (r : Payload) (ctx : List ℕ) (a : Arrival) (s room l : List ℕ) (y : Parsed) (h : Repr) (c : Cursor) → ofParsed y ≡ frag s (a .at) → y ≡ Parsed.Header h c → Brings r room l s (piece ctx a h (c .at) s) → Brings r room l s (fragment ctx a s)
 unfolding fragment
-on-fragment r ctx a s room l y h n p q b = rw (sym p ∙ ap ofParsed q) b
+on-fragment r ctx a s room l y h c p q b = rw (sym p ∙ ap ofParsed q) b
 
 pub no-fragment : (ctx : List ℕ) (a : Arrival) (s room : List ℕ) (y : Parsed) (e : Refusal) → ofParsed y ≡ frag s (a .at) → y ≡ Parsed.Refused e → Brings (Payload.Refused e) room room s (fragment ctx a s)
 unfolding fragment

@@ -65,7 +65,7 @@ impl Arrival {
         ensures { λ r. ⌜ ofArrival r ≡ framed (now (frame .entry)) ⌝ }
     {
         match Repr::parse(frame) {
-            Parsed::Header(mac, at) => {
+            Parsed::Header(mac, d) => {
                 if mac.security_enabled {
                     return ArrivalAnswer::Refused(Refusal::NotExpanded);
                 }
@@ -73,7 +73,7 @@ impl Arrival {
                     return ArrivalAnswer::Refused(Refusal::NotExpanded);
                 }
                 if mac.frame_type.is_data() {
-                    return ArrivalAnswer::Is(Arrival::of(mac, at));
+                    return ArrivalAnswer::Is(Arrival::of(mac, d.at));
                 }
                 ArrivalAnswer::Refused(Refusal::NotExpanded)
             }

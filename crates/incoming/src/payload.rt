@@ -60,13 +60,13 @@ fn read_part(
     frame: &[u8],
     a: Arrival,
     h: frag::Repr,
-    next: usize,
+    next: Cursor,
     contexts: &[u8],
     scratch: &mut [u8],
 ) -> Payload
-    requires { ⌜ (455 ≤ length (now scratch)) × (next ≤ length (now frame)) ⌝ }
+    requires { ⌜ (455 ≤ length (now scratch)) × (next .at ≤ length (now frame)) ⌝ }
     ensures { λ r. ⌜ Brings r (now (scratch .entry)) (now (scratch .exit)) (now (frame .entry))
-        (piece (now (contexts .entry)) a h next (now (frame .entry))) ⌝ }
+        (piece (now (contexts .entry)) a h (next .at) (now (frame .entry))) ⌝ }
 {
     match h {
         frag::Repr::FirstFragment { size, tag } => {
@@ -74,8 +74,15 @@ fn read_part(
             let dst = a.dst;
             let ls = AddressField::Some(src);
             let ld = AddressField::Some(dst);
-            let c = Cursor { at: next };
-            match expand(frame, c, ls, ld, contexts, WordField::Some(size), scratch) {
+            match expand(
+                frame,
+                next,
+                ls,
+                ld,
+                contexts,
+                WordField::Some(size),
+                scratch,
+            ) {
                 Expanded::Datagram { len, sum } => Payload::First {
                     size,
                     tag,
@@ -93,7 +100,7 @@ fn read_part(
                 size,
                 tag,
                 offset,
-                from: next,
+                from: next.at,
             }
         }
     }

@@ -96,8 +96,8 @@ behind-told ctx ls ld b d s at r h e = e ∙ ap (λ z. behind ctx ls ld z s at) 
 pub ruleset iphc-steps = (on-contexts, no-contexts, on-traffic, no-traffic, on-next, no-next, on-front, no-front, on-addr, no-addr, on-addresses, no-addresses, on-iid, no-iid, on-prefix, no-prefix, on-eui, no-eui, on-listed, no-listed, behind-told)
 
 -- ---- for callers
-pub on-iphc : {B : Type 0} {r : Answer B} {y : Parsed} {h : Repr} {n : ℕ} (m : Read Repr) (k : Placed Repr → Answer B) → ofParsed y ≡ m → y ≡ Parsed.Header h n → r ≡ k (record { value = h; next = n }) → r ≡ andThen m k
-on-iphc {h = h} {n = n} m k p q e = on-is ofParsed (Parsed.Header h n) (record { value = h; next = n }) m k refl p q e
+pub on-iphc : {B : Type 0} {r : Answer B} {y : Parsed} {h : Repr} {c : Cursor} (m : Read Repr) (k : Placed Repr → Answer B) → ofParsed y ≡ m → y ≡ Parsed.Header h c → r ≡ k (record { value = h; next = c .at }) → r ≡ andThen m k
+on-iphc {h = h} {c = c} m k p q e = on-is ofParsed (Parsed.Header h c) (record { value = h; next = c .at }) m k refl p q e
 
 pub no-iphc : {B : Type 0} {y : Parsed} {e : Refusal} (m : Read Repr) (k : Placed Repr → Answer B) → ofParsed y ≡ m → y ≡ Parsed.Refused e → refused (numberOf e) ≡ andThen m k
 no-iphc {e = e} m k p q = on-refused ofParsed (Parsed.Refused e) (numberOf e) m k refl p q

@@ -16,8 +16,8 @@ prefix-one = one ofPrefix PrefixAnswer.Is PrefixAnswer.Refused inv
     inv (PrefixAnswer.Refused e) = ap PrefixAnswer.Refused (refusal-back e)
 
 pub iphc-one : Injective ofParsed
-iphc-one = one ofParsed (λ (p : Placed Repr). Parsed.Header (p .value) (p .next)) Parsed.Refused inv
+iphc-one = one ofParsed (λ (p : Placed Repr). Parsed.Header (p .value) (record { at = p .next })) Parsed.Refused inv
   where
-    inv : (y : Parsed) → back (λ (p : Placed Repr). Parsed.Header (p .value) (p .next)) Parsed.Refused (ofParsed y) ≡ y
-    inv (Parsed.Header h n) = refl
+    inv : (y : Parsed) → back (λ (p : Placed Repr). Parsed.Header (p .value) (record { at = p .next })) Parsed.Refused (ofParsed y) ≡ y
+    inv (Parsed.Header h c) = refl
     inv (Parsed.Refused e) = ap Parsed.Refused (refusal-back e)

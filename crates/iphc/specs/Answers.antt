@@ -41,5 +41,5 @@ ofAddresses (AddressesRead.Field x c) = got x (c .at)
 ofAddresses (AddressesRead.Refused e) = refused (numberOf e)
 
 abbrev pub ofParsed : Parsed → Read Repr
-ofParsed (Parsed.Header h n) = got h n
+ofParsed (Parsed.Header h c) = got h (c .at)
 ofParsed (Parsed.Refused e) = refused (numberOf e)

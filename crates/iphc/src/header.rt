@@ -44,7 +44,7 @@ pub struct Repr {
 
 // A header and the place after it, or why there is none.
 pub enum Parsed {
-    Header(Repr, usize),
+    Header(Repr, Cursor),
     Refused(Refusal),
 }
 
@@ -127,7 +127,7 @@ impl Repr {
                 match read_addresses(buf, d, contexts, b, ids, ll_src_addr, ll_dst_addr) {
                     AddressesRead::Field(a, e) => Parsed::Header(
                         Repr::of(ll_src_addr, ll_dst_addr, f, a),
-                        e.at,
+                        e,
                     ),
                     AddressesRead::Refused(e) => Parsed::Refused(e),
                 }

@@ -51,7 +51,7 @@ fn parsed(
     to: usize,
 ) -> usize {
     match Repr::parse(bytes, src, dst, contexts) {
-        Parsed::Header(r, len) => header(out, to, r, len),
+        Parsed::Header(r, c) => header(out, to, r, c.at),
         Parsed::Refused(e) => answer::refused(out, to, e),
     }
 }

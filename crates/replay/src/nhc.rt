@@ -45,7 +45,7 @@ fn ext_header(out: &mut [u8], to: usize, r: ExtHeaderRepr, len: usize) -> usize 
 
 pub fn ext_parse(bytes: &[u8], out: &mut [u8], to: usize) -> usize {
     match ExtHeaderRepr::parse(bytes) {
-        ExtParsed::Header(r, len) => ext_header(out, to, r, len),
+        ExtParsed::Header(r, c) => ext_header(out, to, r, c.at),
         ExtParsed::Refused(e) => answer::refused(out, to, e),
     }
 }
@@ -92,7 +92,7 @@ fn udp_header(out: &mut [u8], to: usize, r: UdpNhcRepr, len: usize) -> usize {
 
 pub fn udp_parse(bytes: &[u8], out: &mut [u8], to: usize) -> usize {
     match UdpNhcRepr::parse(bytes) {
-        UdpParsed::Header(r, len) => udp_header(out, to, r, len),
+        UdpParsed::Header(r, c) => udp_header(out, to, r, c.at),
         UdpParsed::Refused(e) => answer::refused(out, to, e),
     }
 }

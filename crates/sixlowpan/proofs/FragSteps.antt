@@ -5,6 +5,7 @@ use Rattle.octets.specs.Read.{Answer, is, refused, Placed, Read, andThen}
 use Rattle.octets.specs.Refusal.{numberOf}
 use Rattle.octets.specs.declared.refusal.Refusal.{Refusal}
 use Rattle.octets.proofs.Steps.{on-is, on-refused}
+use Rattle.octets.specs.declared.cursor.Cursor.{Cursor}
 use Rattle.sixlowpan.specs.Key.{needed, ofKey}
 use Rattle.sixlowpan.specs.Frag.{ofParsed}
 use Rattle.sixlowpan.specs.declared.frag.Repr.{Repr}
@@ -26,8 +27,8 @@ key-told s d m n t u p q = rw (p, q)
 pub ruleset key-steps = (on-needed, no-needed, key-told)
 
 -- ---- for callers
-pub on-frag : {B : Type 0} {r : Answer B} {y : Parsed} {h : Repr} {n : ℕ} (m : Read Repr) (k : Placed Repr → Answer B) → ofParsed y ≡ m → y ≡ Parsed.Header h n → r ≡ k (record { value = h; next = n }) → r ≡ andThen m k
-on-frag {h = h} {n = n} m k p q e = on-is ofParsed (Parsed.Header h n) (record { value = h; next = n }) m k refl p q e
+pub on-frag : {B : Type 0} {r : Answer B} {y : Parsed} {h : Repr} {c : Cursor} (m : Read Repr) (k : Placed Repr → Answer B) → ofParsed y ≡ m → y ≡ Parsed.Header h c → r ≡ k (record { value = h; next = c .at }) → r ≡ andThen m k
+on-frag {h = h} {c = c} m k p q e = on-is ofParsed (Parsed.Header h c) (record { value = h; next = c .at }) m k refl p q e
 
 pub no-frag : {B : Type 0} {y : Parsed} {e : Refusal} (m : Read Repr) (k : Placed Repr → Answer B) → ofParsed y ≡ m → y ≡ Parsed.Refused e → refused (numberOf e) ≡ andThen m k
 no-frag {e = e} m k p q = on-refused ofParsed (Parsed.Refused e) (numberOf e) m k refl p q

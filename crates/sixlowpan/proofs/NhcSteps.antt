@@ -30,14 +30,14 @@ on-nhc {x = x} m k p q e = on-is ofNhc (NhcAnswer.Is x) x m k refl p q e
 pub no-nhc : {B : Type 0} {y : NhcAnswer} {e : Refusal} (m : Answer NhcPacket) (k : NhcPacket → Answer B) → ofNhc y ≡ m → y ≡ NhcAnswer.Refused e → refused (numberOf e) ≡ andThen m k
 no-nhc {e = e} m k p q = on-refused ofNhc (NhcAnswer.Refused e) (numberOf e) m k refl p q
 
-pub on-ext : {B : Type 0} {r : Answer B} {y : ExtParsed} {h : ExtHeaderRepr} {n : ℕ} (m : Read ExtHeaderRepr) (k : Placed ExtHeaderRepr → Answer B) → ofExt y ≡ m → y ≡ ExtParsed.Header h n → r ≡ k (record { value = h; next = n }) → r ≡ andThen m k
-on-ext {h = h} {n = n} m k p q e = on-is ofExt (ExtParsed.Header h n) (record { value = h; next = n }) m k refl p q e
+pub on-ext : {B : Type 0} {r : Answer B} {y : ExtParsed} {h : ExtHeaderRepr} {c : Cursor} (m : Read ExtHeaderRepr) (k : Placed ExtHeaderRepr → Answer B) → ofExt y ≡ m → y ≡ ExtParsed.Header h c → r ≡ k (record { value = h; next = c .at }) → r ≡ andThen m k
+on-ext {h = h} {c = c} m k p q e = on-is ofExt (ExtParsed.Header h c) (record { value = h; next = c .at }) m k refl p q e
 
 pub no-ext : {B : Type 0} {y : ExtParsed} {e : Refusal} (m : Read ExtHeaderRepr) (k : Placed ExtHeaderRepr → Answer B) → ofExt y ≡ m → y ≡ ExtParsed.Refused e → refused (numberOf e) ≡ andThen m k
 no-ext {e = e} m k p q = on-refused ofExt (ExtParsed.Refused e) (numberOf e) m k refl p q
 
-pub on-udp : {B : Type 0} {r : Answer B} {y : UdpParsed} {h : UdpNhcRepr} {n : ℕ} (m : Read UdpNhcRepr) (k : Placed UdpNhcRepr → Answer B) → ofUdp y ≡ m → y ≡ UdpParsed.Header h n → r ≡ k (record { value = h; next = n }) → r ≡ andThen m k
-on-udp {h = h} {n = n} m k p q e = on-is ofUdp (UdpParsed.Header h n) (record { value = h; next = n }) m k refl p q e
+pub on-udp : {B : Type 0} {r : Answer B} {y : UdpParsed} {h : UdpNhcRepr} {c : Cursor} (m : Read UdpNhcRepr) (k : Placed UdpNhcRepr → Answer B) → ofUdp y ≡ m → y ≡ UdpParsed.Header h c → r ≡ k (record { value = h; next = c .at }) → r ≡ andThen m k
+on-udp {h = h} {c = c} m k p q e = on-is ofUdp (UdpParsed.Header h c) (record { value = h; next = c .at }) m k refl p q e
 
 pub no-udp : {B : Type 0} {y : UdpParsed} {e : Refusal} (m : Read UdpNhcRepr) (k : Placed UdpNhcRepr → Answer B) → ofUdp y ≡ m → y ≡ UdpParsed.Refused e → refused (numberOf e) ≡ andThen m k
 no-udp {e = e} m k p q = on-refused ofUdp (UdpParsed.Refused e) (numberOf e) m k refl p q

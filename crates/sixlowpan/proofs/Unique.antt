@@ -36,17 +36,17 @@ nhc-one = one ofNhc NhcAnswer.Is NhcAnswer.Refused inv
     inv (NhcAnswer.Refused e) = ap NhcAnswer.Refused (refusal-back e)
 
 pub ext-one : Injective ofExt
-ext-one = one ofExt (λ (p : Placed ExtHeaderRepr). ExtParsed.Header (p .value) (p .next)) ExtParsed.Refused inv
+ext-one = one ofExt (λ (p : Placed ExtHeaderRepr). ExtParsed.Header (p .value) (record { at = p .next })) ExtParsed.Refused inv
   where
-    inv : (y : ExtParsed) → back (λ (p : Placed ExtHeaderRepr). ExtParsed.Header (p .value) (p .next)) ExtParsed.Refused (ofExt y) ≡ y
-    inv (ExtParsed.Header h n) = refl
+    inv : (y : ExtParsed) → back (λ (p : Placed ExtHeaderRepr). ExtParsed.Header (p .value) (record { at = p .next })) ExtParsed.Refused (ofExt y) ≡ y
+    inv (ExtParsed.Header h c) = refl
     inv (ExtParsed.Refused e) = ap ExtParsed.Refused (refusal-back e)
 
 pub udp-one : Injective ofUdp
-udp-one = one ofUdp (λ (p : Placed UdpNhcRepr). UdpParsed.Header (p .value) (p .next)) UdpParsed.Refused inv
+udp-one = one ofUdp (λ (p : Placed UdpNhcRepr). UdpParsed.Header (p .value) (record { at = p .next })) UdpParsed.Refused inv
   where
-    inv : (y : UdpParsed) → back (λ (p : Placed UdpNhcRepr). UdpParsed.Header (p .value) (p .next)) UdpParsed.Refused (ofUdp y) ≡ y
-    inv (UdpParsed.Header h n) = refl
+    inv : (y : UdpParsed) → back (λ (p : Placed UdpNhcRepr). UdpParsed.Header (p .value) (record { at = p .next })) UdpParsed.Refused (ofUdp y) ≡ y
+    inv (UdpParsed.Header h c) = refl
     inv (UdpParsed.Refused e) = ap UdpParsed.Refused (refusal-back e)
 
 pub dispatch-one : Injective ofDispatch
@@ -64,8 +64,8 @@ key-one = one ofKey KeyAnswer.Is KeyAnswer.Refused inv
     inv (KeyAnswer.Refused e) = ap KeyAnswer.Refused (refusal-back e)
 
 pub frag-one : Injective Frag.ofParsed
-frag-one = one Frag.ofParsed (λ (p : Placed FragRepr.Repr). FragParsed.Parsed.Header (p .value) (p .next)) FragParsed.Parsed.Refused inv
+frag-one = one Frag.ofParsed (λ (p : Placed FragRepr.Repr). FragParsed.Parsed.Header (p .value) (record { at = p .next })) FragParsed.Parsed.Refused inv
   where
-    inv : (y : FragParsed.Parsed) → back (λ (p : Placed FragRepr.Repr). FragParsed.Parsed.Header (p .value) (p .next)) FragParsed.Parsed.Refused (Frag.ofParsed y) ≡ y
-    inv (FragParsed.Parsed.Header h n) = refl
+    inv : (y : FragParsed.Parsed) → back (λ (p : Placed FragRepr.Repr). FragParsed.Parsed.Header (p .value) (record { at = p .next })) FragParsed.Parsed.Refused (Frag.ofParsed y) ≡ y
+    inv (FragParsed.Parsed.Header h c) = refl
     inv (FragParsed.Parsed.Refused e) = ap FragParsed.Parsed.Refused (refusal-back e)

@@ -12,7 +12,7 @@ use Rattle.sixlowpan.specs.declared.frag.Repr.the-variants.{FirstFragmen
 use Rattle.sixlowpan.specs.declared.frag.Parsed.{Parsed}
 
 abbrev pub ofParsed : Parsed → Read Repr
-ofParsed (Parsed.Header h n) = got h n
+ofParsed (Parsed.Header h c) = got h (c .at)
 ofParsed (Parsed.Refused e) = refused (numberOf e)
 
 -- after the word and the tag: 11000, a first part; 11100, an offset in units of 8 octets follows; anything else is no fragment header

@@ -12,7 +12,7 @@ use Rattle.sixlowpan.specs.declared.nhc.ExtHeaderRepr.{ExtHeaderRepr}
 use Rattle.sixlowpan.specs.declared.nhc.ExtParsed.{ExtParsed}
 
 abbrev pub ofExt : ExtParsed → Read ExtHeaderRepr
-ofExt (ExtParsed.Header h n) = got h n
+ofExt (ExtParsed.Header h c) = got h (c .at)
 ofExt (ExtParsed.Refused e) = refused (numberOf e)
 
 -- the table of EID: 5 and 6 are reserved

@@ -14,7 +14,7 @@ use Rattle.sixlowpan.specs.declared.nhc.PortsRead.{PortsRead}
 use Rattle.sixlowpan.specs.declared.nhc.ChecksumRead.{ChecksumRead}
 
 abbrev pub ofUdp : UdpParsed → Read UdpNhcRepr
-ofUdp (UdpParsed.Header h n) = got h n
+ofUdp (UdpParsed.Header h c) = got h (c .at)
 ofUdp (UdpParsed.Refused e) = refused (numberOf e)
 
 abbrev pub ofPorts : PortsRead → Read Ports

@@ -44,7 +44,7 @@ pub enum Repr {
 
 // A header and the place after it, or why there is none.
 pub enum Parsed {
-    Header(Repr, usize),
+    Header(Repr, Cursor),
     Refused(Refusal),
 }
 
@@ -89,7 +89,7 @@ impl Repr {
         let size = word % SIZES;
         let dispatch = word / SIZES;
         if dispatch == 0b11000 {
-            return Parsed::Header(Repr::FirstFragment { size, tag }, c.at);
+            return Parsed::Header(Repr::FirstFragment { size, tag }, c);
         }
         if dispatch == 0b11100 {
             match c.byte(buf) {
@@ -99,7 +99,7 @@ impl Repr {
                         tag,
                         offset: Units(o),
                     },
-                    d.at,
+                    d,
                 ),
                 ByteRead::Refused(e) => Parsed::Refused(e),
             }

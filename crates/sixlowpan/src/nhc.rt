@@ -136,7 +136,7 @@ pub struct ExtHeaderRepr {
 
 // A header and the place after it, or why there is none.
 pub enum ExtParsed {
-    Header(ExtHeaderRepr, usize),
+    Header(ExtHeaderRepr, Cursor),
     Refused(Refusal),
 }
 
@@ -177,7 +177,7 @@ impl ExtHeaderRepr {
                         next_header,
                         length,
                     },
-                    e.at,
+                    e,
                 ),
                 ByteRead::Refused(e) => ExtParsed::Refused(e),
             },
@@ -228,7 +228,7 @@ pub struct UdpNhcRepr {
 
 // A header and the place after it, or why there is none.
 pub enum UdpParsed {
-    Header(UdpNhcRepr, usize),
+    Header(UdpNhcRepr, Cursor),
     Refused(Refusal),
 }
 
@@ -446,7 +446,7 @@ impl UdpNhcRepr {
                         dst_port: ports.dst,
                         checksum,
                     },
-                    e.at,
+                    e,
                 ),
                 ChecksumRead::Refused(e) => UdpParsed::Refused(e),
             },
