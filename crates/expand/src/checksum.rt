@@ -35,12 +35,15 @@ fn sum_words(s: &[u8]) -> u32
     requires { ⌜ length (now s) ≤ 65534 ⌝ }
     ensures { λ r. ⌜ (r ≡ sumWords (now (s .entry))) × (r ≤ (length (now (s .entry)) + 1) * 32768) ⌝ }
 {
+    let n = s.len() / 2;
     let mut x: u32 = 0;
-    let mut i: usize = 0;
-    while i + 1 < s.len() {
+    let mut k: usize = 0;
+    while k < n {
+        let i = k * 2;
         x = x + (wide(s[i]) * 256 + wide(s[i + 1]));
-        i += 2;
+        k += 1;
     }
+    let i = n * 2;
     if i < s.len() { x + wide(s[i]) * 256 } else { x }
 }
 

@@ -70,6 +70,25 @@ pub two-bytes : (l m n : List ℕ) (at x y : ℕ) → m ≡ put at (byteBytes x)
 unfolding byteBytes put
 two-bytes l m n at x y p q = q ∙ ap (λ z. set z (at + 1) y) p
 
+-- stores one behind the other, as straight code leaves them: the first at a place, each further one at a distance from it
+abbrev stores : ℕ → ℕ → List ℕ → List ℕ → List ℕ
+stores at k [] l = l
+stores at k (b ∷ bs) l = stores at (k + 1) bs (set l (at + k) b)
+
+stores-put : (at k : ℕ) (bs l : List ℕ) → stores at k bs l ≡ put (at + k) bs l
+unfolding put
+stores-put at k [] l = refl
+stores-put at k (b ∷ bs) l = stores-put at (k + 1) bs (set l (at + k) b) ∙ ap (λ i. put i bs (set l (at + k) b)) (sym (add-assoc at k 1))
+
+abbrev pub stored : ℕ → List ℕ → List ℕ → List ℕ
+stored at [] l = l
+stored at (b ∷ bs) l = stores at 1 bs (set l at b)
+
+pub stored-put : (at : ℕ) (bs l : List ℕ) → stored at bs l ≡ put at bs l
+unfolding put
+stored-put at [] l = refl
+stored-put at (b ∷ bs) l = stores-put at 1 bs (set l at b)
+
 -- ---- the test of the room, where a call gave the length; and the case that a match found
 pub room-short : {A : Type 0} {r : A} {n : ℕ} (a b : ℕ) (x y : A) → n ≡ a → b < n → r ≡ y → r ≡ choose (leb a b) x y
 room-short a b x y p h e = rw (← p, lt-leb _ _ h) e

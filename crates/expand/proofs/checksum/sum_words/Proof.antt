@@ -1,6 +1,6 @@
 -- What is summed so far, with the words that are left, is the whole.
 use mathlib.Core.Path.{_≡_, refl, sym, ap, _∙_}
-use Prim.Native.Nat.{ℕ, _+_, _-_, _*_, _≤_}
+use Prim.Native.Nat.{ℕ, _+_, _-_, _*_, _/_, _≤_}
 use native.Mathlib.Omega.{arith}
 use borrow.Author.Needs.{needs}
 use lib.ListN.{length, drop}
@@ -11,16 +11,16 @@ use Rattle.expand.proofs.checksum.sum_words.Statement.{statement}
 use Rattle.expand.proofs.checksum.sum_words.Tie as tie
 
 abbrev Inv-loop : tie.InvT-loop
-Inv-loop s x₀ i₀ x i = (i ≤ length s) × (x * 2 ≤ 65535 * i) × (x + sumWords (drop i s) ≡ sumWords s)
+Inv-loop s n x₀ k₀ x k = (k ≤ n) × (x ≤ 65535 * k) × (x + sumWords (drop (k * 2) s) ≡ sumWords s)
 
 abbrev μ-loop : tie.MeasureT-loop
-μ-loop s x₀ i₀ x i = length s - i
+μ-loop s n x₀ k₀ x k = n - k
 
 loop-holds : tie.Need-loop-holds Inv-loop μ-loop
 loop-holds c = (omega arith, omega arith, omega arith)
 
-add-loop : tie.Need-add-loop Inv-loop μ-loop
-add-loop c = search needs
+mul-i : tie.Need-mul-i Inv-loop μ-loop
+mul-i c = search needs
 
 shared-slice-read-wide : tie.Need-shared-slice-read-wide Inv-loop μ-loop
 shared-slice-read-wide c = search needs
@@ -46,15 +46,20 @@ add-x c = search needs
 add-x-2 : tie.Need-add-x-2 Inv-loop μ-loop
 add-x-2 c = search needs
 
-add-i : tie.Need-add-i Inv-loop μ-loop
-add-i c = search needs
+add-k : tie.Need-add-k Inv-loop μ-loop
+add-k c = search needs
 
 loop-less : tie.Need-loop-less Inv-loop μ-loop
 loop-less c = search needs
 
 loop-again : tie.Need-loop-again Inv-loop μ-loop
-loop-again c = let l = c .before .before .before .before .before .loop in let s = now (c .before .before .before .before .before .before .before .args .s) in
-    (omega arith, omega arith, omega (arith, words-step s (l .i) (omega arith), l .inv .2))
+loop-again c =
+    let l = c .before .before .before .before .before .loop in let s = now (c .before .before .before .before .before .before .before .args .s) in
+    let e : l .k * 2 + 2 ≡ (l .k + 1) * 2 = omega arith in
+    (omega arith, omega arith, omega (arith, words-step s (l .k * 2) (omega arith), ap (λ j. sumWords (drop j s)) e, l .inv .2))
+
+mul-i-2 : tie.Need-mul-i-2 Inv-loop μ-loop
+mul-i-2 c = search needs
 
 shared-slice-read-wide-3 : tie.Need-shared-slice-read-wide-3 Inv-loop μ-loop
 shared-slice-read-wide-3 c = search needs
@@ -69,10 +74,15 @@ add-result : tie.Need-add-result Inv-loop μ-loop
 add-result c = search needs
 
 returns : tie.Need-returns Inv-loop μ-loop
-returns c = let l = c .before .before .before .before .loop in let s = now (c .before .before .before .before .before .before .args .s) in (omega (arith, words-last s (l .i) (omega arith), l .inv .2), omega arith)
+returns c =
+    let l = c .before .before .before .before .loop in let s = now (c .before .before .before .before .before .before .args .s) in
+    let e : l .k ≡ length s / 2 = omega arith in
+    (omega (arith, words-last s (length s / 2 * 2) (omega arith), ap (λ k. sumWords (drop (k * 2) s)) e, l .inv .2), omega arith)
 
 returns-2 : tie.Need-returns-2 Inv-loop μ-loop
-returns-2 c = let l = c .before .before .loop in let s = now (c .before .before .before .before .args .s) in (omega (arith, words-none s (l .i) (omega arith), l .inv .2), omega arith)
+returns-2 c =
+    let l = c .before .before .loop in let s = now (c .before .before .before .before .args .s) in
+    (omega (arith, words-none s (l .k * 2) (omega arith), l .inv .2), omega arith)
 
 pub sum-words-spec : {M : Type 1} → statement M
 sum-words-spec =
@@ -81,7 +91,7 @@ sum-words-spec =
     Inv-loop
     μ-loop
     loop-holds
-    add-loop
+    mul-i
     shared-slice-read-wide
     wide-requires
     mul-x
@@ -90,9 +100,10 @@ sum-words-spec =
     wide-requires-2
     add-x
     add-x-2
-    add-i
+    add-k
     loop-less
     loop-again
+    mul-i-2
     shared-slice-read-wide-3
     wide-requires-3
     mul-result

@@ -1,8 +1,15 @@
-use borrow.Author.Needs.{needs}
-use Rattle.octets.proofs.Puts.{puts}
+use borrow.Author.Needs.{needs, below-set}
+use Prim.Native.Nat.{_+_, _<_}
+use lib.ListN.{length}
+use denote.Ref.{now}
+use native.Mathlib.Omega.{arith}
+use Rattle.octets.proofs.Puts.{puts, stored-put}
 use Rattle.octets.specs.Write.{be16Bytes}
 use Rattle.octets.proofs.write.put_be16.Statement.{statement}
 use Rattle.octets.proofs.write.put_be16.Tie as tie
+
+sub-if2 : tie.Need-sub-if2
+sub-if2 c = search needs
 
 cast-put-byte : tie.Need-cast-put-byte
 cast-put-byte c = search needs
@@ -26,13 +33,36 @@ returns : tie.Need-returns
 unfolding be16Bytes
 returns c = search puts
 
+cast-buf : tie.Need-cast-buf
+cast-buf c = search needs
+
+slice-write-buf : tie.Need-slice-write-buf
+slice-write-buf c = search needs
+
+cast-buf-2 : tie.Need-cast-buf-2
+cast-buf-2 c = search needs
+
+add-buf : tie.Need-add-buf
+add-buf c = search needs
+
+slice-write-buf-2 : tie.Need-slice-write-buf-2
+slice-write-buf-2 c = let a = c .before .before .before .args in let h : a .at + 1 < length (now (a .buf)) = omega arith in search (below-set, h)
+
+same-length-2 : tie.Need-same-length-2
+same-length-2 c = search needs
+
 returns-2 : tie.Need-returns-2
-returns-2 c = search puts
+unfolding be16Bytes
+returns-2 c = stored-put (c .before .before .before .args .at) (be16Bytes (c .before .before .before .args .x)) (now (c .before .before .before .args .buf))
+
+returns-3 : tie.Need-returns-3
+returns-3 c = search puts
 
 pub put-be16-spec : {M : Type 1} → statement M
 put-be16-spec =
     tie.close
     (tie.spec
+    sub-if2
     cast-put-byte
     put-byte-requires
     add-put-byte
@@ -40,4 +70,11 @@ put-be16-spec =
     put-byte-requires-2
     same-length
     returns
-    returns-2)
+    cast-buf
+    slice-write-buf
+    cast-buf-2
+    add-buf
+    slice-write-buf-2
+    same-length-2
+    returns-2
+    returns-3)
