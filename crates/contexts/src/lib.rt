@@ -13,7 +13,7 @@ ghost use Rattle.reassembly.specs.Slots.{gatesOf};
 ghost use Rattle.reassembly.specs.Table.{step, Gives};
 ghost use Rattle.receiver.specs.Receive.{callOf};
 ghost use Rattle.contexts.specs.Slice.{listed, empty, appended, withAt, laidTo, bytesOf};
-use expand::copy::put_part;
+use expand::copy::put_slice;
 use ieee802154::addr::AddressField;
 use iphc::context::AddressContext;
 use iphc::header::Parsed;
@@ -51,7 +51,7 @@ fn append(found: bool, c: [u8; 8], f: Flat) -> Flat
         let at = f.len;
         if at <= 120 {
             let mut bytes = f.bytes;
-            put_part(&mut bytes, at, &c, 0, 8);
+            put_slice(&mut bytes, at, &c, 0, 8);
             return Flat { bytes, len: at + 8 };
         }
         return f;

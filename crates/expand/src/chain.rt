@@ -15,7 +15,7 @@ ghost use Rattle.expand.specs.Chain.{nextNumber, sumFor, passed, entered
 ghost use Rattle.expand.specs.Chain.{Walks};
 use super::checksum::UdpSum;
 use super::copy::left;
-use super::copy::put_part;
+use super::copy::put_slice;
 use super::ip::full_size;
 use super::ip::put_extension;
 use super::ip::put_ipv6;
@@ -303,7 +303,7 @@ fn end_rest(frame: &[u8], at: usize, w: Way, out: &mut [u8]) -> Walked
     let len = w.at + (left(frame, at) as u16);
     match total_in(size, len, out.len()) {
         TotalAnswer::Is(_) => {
-            put_part(out, o, frame, at, frame.len());
+            put_slice(out, o, frame, at, frame.len());
             let sum = UdpSum::NONE;
             Walked::End { len, sum }
         }
@@ -361,7 +361,7 @@ fn end_udp(frame: &[u8], at: usize, h: UdpNhcRepr, w: Way, out: &mut [u8]) -> Wa
     match total_in(size, len, out.len()) {
         TotalAnswer::Is(total) => {
             put_udp(out, o, h, less(total, w.at));
-            put_part(out, o + 8, frame, at, frame.len());
+            put_slice(out, o + 8, frame, at, frame.len());
             let sum = sum_for(w, checksum);
             Walked::End { len, sum }
         }

@@ -19,7 +19,7 @@ fn least(a: usize, b: usize) -> usize
 
 // Puts n bytes of s, from the place `from` on, into lent bytes from the place `at` on. What lies past an end is
 // dropped.
-pub fn put_part(buf: &mut [u8], at: usize, s: &[u8], from: usize, n: usize)
+pub fn put_slice(buf: &mut [u8], at: usize, s: &[u8], from: usize, n: usize)
     ensures { λ _. ⌜ now (buf .exit) ≡ put at (take n (drop from (now (s .entry)))) (now (buf .entry)) ⌝ }
 {
     let m = least(least(n, left(s, from)), left(buf, at));

@@ -6,7 +6,7 @@ ghost use Rattle.octets.specs.Write.{put};
 ghost use Rattle.expand.specs.Full.{byteOr, wordOr, labelOr, classOf, firstWord, frontWith, bothBytes, ipv6With};
 ghost use Rattle.expand.specs.Full.{udpFull};
 ghost use Rattle.expand.specs.Chain.{pad, fullSize, extFull};
-use super::copy::put_part;
+use super::copy::put_slice;
 use iphc::LabelField;
 use iphc::Repr;
 use octets::field::ByteField;
@@ -116,11 +116,11 @@ fn put_pad(buf: &mut [u8], at: usize, n: usize)
 {
     if n < 2 {
         let one = [0u8; 1];
-        put_part(buf, at, &one, 0, n);
+        put_slice(buf, at, &one, 0, n);
         return;
     }
     let option = [1u8, (n - 2) as u8, 0, 0, 0, 0, 0];
-    put_part(buf, at, &option, 0, n);
+    put_slice(buf, at, &option, 0, n);
 }
 
 // An extension header at a place: the bytes behind its first two are `len` of the frame, from the place `from` on.
@@ -139,6 +139,6 @@ pub(crate) fn put_extension(
     let size = full_size(len);
     put_byte(buf, at, next);
     put_byte(buf, at + 1, (size / 8 - 1) as u8);
-    put_part(buf, at + 2, frame, from, len);
+    put_slice(buf, at + 2, frame, from, len);
     put_pad(buf, at + 2 + len, size - (2 + len));
 }

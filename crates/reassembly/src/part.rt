@@ -15,7 +15,7 @@ use super::slot::Slot;
 use expand::checksum::UdpSum;
 use expand::checksum::is_right;
 use expand::checksum::put_checksum;
-use expand::copy::put_part;
+use expand::copy::put_slice;
 use octets::refusal::Refusal;
 use sixlowpan::frag::Units;
 
@@ -186,7 +186,7 @@ fn hand_out(room: &[u8], size: usize, sum: UdpSum, out: &mut [u8]) -> Outcome
     ensures { λ r. ⌜ Hands r (now (out .entry)) (now (out .exit)) (handed sum (take size (now (room .entry)))) ⌝ }
 {
     if is_right(room, size, sum) {
-        put_part(out, 0, room, 0, size);
+        put_slice(out, 0, room, 0, size);
         put_checksum(out, size, sum);
         return Outcome::Out(size);
     }
@@ -201,7 +201,7 @@ fn place_part(s: Slot, room: &mut [u8], part: Part, bytes: &[u8], out: &mut [u8]
         (place s (now (room .entry)) (withBytes part (now (bytes .entry)))) ⌝ }
 {
     let offset = part.offset;
-    put_part(room, offset.bytes(), bytes, 0, bytes.len());
+    put_slice(room, offset.bytes(), bytes, 0, bytes.len());
     let slot = with_part(s, part, bytes.len());
     if is_full(slot) {
         let k = slot.key;

@@ -11,7 +11,7 @@ ghost use Rattle.receiver.specs.Carried.{partIn};
 ghost use Rattle.receiver.specs.Steps.{ofJudged, judged, isTaken, atOnce, openSlot, newSlot, Told};
 use super::Carried;
 use super::What;
-use expand::copy::put_part;
+use expand::copy::put_slice;
 use octets::refusal::Refusal;
 use reassembly::InSlot;
 use reassembly::Outcome;
@@ -123,7 +123,7 @@ pub fn answer(c: Carried, out: &mut [u8]) -> Outcome
             if out.len() < n {
                 return Outcome::Refused(Refusal::NoRoom);
             }
-            put_part(out, 0, &bytes, 0, n);
+            put_slice(out, 0, &bytes, 0, n);
             Outcome::Out(n)
         }
         What::Refused(e) => Outcome::Refused(e),

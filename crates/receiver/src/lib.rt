@@ -23,7 +23,7 @@ use call::put_at;
 use call::to_open;
 use expand::checksum::UdpSum;
 use expand::checksum::is_right;
-use expand::copy::put_part;
+use expand::copy::put_slice;
 use incoming::Arrival;
 use incoming::Payload;
 use incoming::arrival::ArrivalAnswer;
@@ -167,7 +167,7 @@ impl Carried {
                     from,
                 } => {
                     let n = frame.len() - from;
-                    put_part(&mut bytes, 0, frame, from, n);
+                    put_slice(&mut bytes, 0, frame, from, n);
                     Carried::part(key_of(a, size, tag), offset, UdpSum::NONE, n, bytes)
                 }
                 Payload::Refused(e) => Carried::refused(e, bytes),

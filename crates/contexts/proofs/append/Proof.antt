@@ -5,14 +5,14 @@ use borrow.Author.Needs.{needs}
 use Rattle.contexts.proofs.append.Statement.{statement}
 use Rattle.contexts.proofs.append.Tie as tie
 
-slice-aggregate-put-part : tie.Need-slice-aggregate-put-part
-slice-aggregate-put-part c = search needs
+slice-aggregate-put-slice : tie.Need-slice-aggregate-put-slice
+slice-aggregate-put-slice c = search needs
 
-slice-aggregate-put-part-2 : tie.Need-slice-aggregate-put-part-2
-slice-aggregate-put-part-2 c = search needs
+slice-aggregate-put-slice-2 : tie.Need-slice-aggregate-put-slice-2
+slice-aggregate-put-slice-2 c = search needs
 
-put-part-requires : tie.Need-put-part-requires
-put-part-requires c κs = search needs
+put-slice-requires : tie.Need-put-slice-requires
+put-slice-requires c κs = search needs
 
 add-t15 : tie.Need-add-t15
 add-t15 c = search needs
@@ -20,7 +20,7 @@ add-t15 c = search needs
 returns : tie.Need-returns
 returns c =
     let a = c .before .before .before .before .before .before .before .args in
-    append-put (a .f) (a .t2) _ (c .before .before .before .before .before .before .before .good .1 .0 .1 .0 .1) (c .before .before .before .before .before .if2 .taken) (c .before .put-part .ensures) ∙ ap (λ z. appended z (a .t2) (a .f)) (sym (c .before .before .before .before .before .before .if1 .taken))
+    append-put (a .f) (a .t2) _ (c .before .before .before .before .before .before .before .good .1 .0 .1 .0 .1) (c .before .before .before .before .before .if2 .taken) (c .before .put-slice .ensures) ∙ ap (λ z. appended z (a .t2) (a .f)) (sym (c .before .before .before .before .before .before .if1 .taken))
 
 returns-2 : tie.Need-returns-2
 returns-2 c =
@@ -36,9 +36,9 @@ pub append-spec : {M : Type 1} → statement M
 append-spec =
     tie.close
     (tie.spec
-    slice-aggregate-put-part
-    slice-aggregate-put-part-2
-    put-part-requires
+    slice-aggregate-put-slice
+    slice-aggregate-put-slice-2
+    put-slice-requires
     add-t15
     returns
     returns-2

@@ -30,17 +30,17 @@ put-mac-requires c κs = let m = plan-mac _ _ (c .before .before .before .before
 put-middle-requires : tie.Need-put-middle-requires
 put-middle-requires c κs = let m = middle-told (c .before .before .before .before .before .before .before .before .before .before .before .before .args .l) (now (c .before .before .before .before .before .before .before .before .before .before .before .before .args .d)) (c .before .before .before .before .before .before .before .before .before .before .before .before .args .plan) (c .before .before .before .before .before .before .before .before .before .before .before .before .pre .2) (c .before .before .before .before .before .before .before .before .before .before .before .before .args .p) _ (c .before .before .before .before .before .before .before .before .before .middle-len .ensures .0) in ((c .before .before .before .before .before .before .before .before .before .before .before .before .pre .0, c .before .before .before .before .before .before .before .before .before .before .before .before .pre .1), omega arith)
 
-add-put-part : tie.Need-add-put-part
-add-put-part c = let m = plan-mac _ _ (c .before .before .before .before .before .before .before .before .before .before .before .before .before .before .before .before .before .args .plan) (c .before .before .before .before .before .before .before .before .before .before .before .before .before .before .before .before .before .pre .2) in omega (arith, mac-most (c .before .before .before .before .before .before .before .before .before .before .before .before .before .before .before .before .before .args .l))
+add-put-slice : tie.Need-add-put-slice
+add-put-slice c = let m = plan-mac _ _ (c .before .before .before .before .before .before .before .before .before .before .before .before .before .before .before .before .before .args .plan) (c .before .before .before .before .before .before .before .before .before .before .before .before .before .before .before .before .before .pre .2) in omega (arith, mac-most (c .before .before .before .before .before .before .before .before .before .before .before .before .before .before .before .before .before .args .l))
 
-put-part-requires : tie.Need-put-part-requires
-put-part-requires c κs = search needs
+put-slice-requires : tie.Need-put-slice-requires
+put-slice-requires c κs = search needs
 
 same-length : tie.Need-same-length
 same-length c = search needs
 
 returns-2 : tie.Need-returns-2
-returns-2 c = frame-there _ _ _ _ _ _ _ (plan-mac _ _ (c .before .before .before .before .before .before .before .before .before .before .before .before .before .before .before .before .before .before .before .before .args .plan) (c .before .before .before .before .before .before .before .before .before .before .before .before .before .before .before .before .before .before .before .before .pre .2)) (middle-told (c .before .before .before .before .before .before .before .before .before .before .before .before .before .before .before .before .before .before .before .before .args .l) (now (c .before .before .before .before .before .before .before .before .before .before .before .before .before .before .before .before .before .before .before .before .args .d)) (c .before .before .before .before .before .before .before .before .before .before .before .before .before .before .before .before .before .before .before .before .args .plan) (c .before .before .before .before .before .before .before .before .before .before .before .before .before .before .before .before .before .before .before .before .pre .2) (c .before .before .before .before .before .before .before .before .before .before .before .before .before .before .before .before .before .before .before .before .args .p) _ (c .before .before .before .before .before .before .before .before .before .before .before .before .before .before .before .before .before .middle-len .ensures .0)) (c .before .before .before .before .before .before .before .before .before .before .before .before .before .before .before .part-len .ensures .0) _ _ _ _ (part-told (c .before .before .before .before .before .before .before .before .before .before .before .before .before .before .before .before .before .before .before .before .args .l) (now (c .before .before .before .before .before .before .before .before .before .before .before .before .before .before .before .before .before .before .before .before .args .d)) (c .before .before .before .before .before .before .before .before .before .before .before .before .before .before .before .before .before .before .before .before .args .plan) (c .before .before .before .before .before .before .before .before .before .before .before .before .before .before .before .before .before .before .before .before .pre .2) (c .before .before .before .before .before .before .before .before .before .before .before .before .before .before .before .before .before .before .before .before .args .p) _ (c .before .before .before .before .before .before .before .before .before .before .before .before .before .before .before .before .part-at .ensures)) (c .before .before .before .before .before .before .before .before .before .before .before .before .before .if1 .left) (c .before .before .before .before .before .before .before .before .before .before .before .put-mac .ensures) (c .before .before .before .before .before .before .before .put-middle .ensures) (c .before .before .put-part .ensures)
+returns-2 c = frame-there _ _ _ _ _ _ _ (plan-mac _ _ (c .before .before .before .before .before .before .before .before .before .before .before .before .before .before .before .before .before .before .before .before .args .plan) (c .before .before .before .before .before .before .before .before .before .before .before .before .before .before .before .before .before .before .before .before .pre .2)) (middle-told (c .before .before .before .before .before .before .before .before .before .before .before .before .before .before .before .before .before .before .before .before .args .l) (now (c .before .before .before .before .before .before .before .before .before .before .before .before .before .before .before .before .before .before .before .before .args .d)) (c .before .before .before .before .before .before .before .before .before .before .before .before .before .before .before .before .before .before .before .before .args .plan) (c .before .before .before .before .before .before .before .before .before .before .before .before .before .before .before .before .before .before .before .before .pre .2) (c .before .before .before .before .before .before .before .before .before .before .before .before .before .before .before .before .before .before .before .before .args .p) _ (c .before .before .before .before .before .before .before .before .before .before .before .before .before .before .before .before .before .middle-len .ensures .0)) (c .before .before .before .before .before .before .before .before .before .before .before .before .before .before .before .part-len .ensures .0) _ _ _ _ (part-told (c .before .before .before .before .before .before .before .before .before .before .before .before .before .before .before .before .before .before .before .before .args .l) (now (c .before .before .before .before .before .before .before .before .before .before .before .before .before .before .before .before .before .before .before .before .args .d)) (c .before .before .before .before .before .before .before .before .before .before .before .before .before .before .before .before .before .before .before .before .args .plan) (c .before .before .before .before .before .before .before .before .before .before .before .before .before .before .before .before .before .before .before .before .pre .2) (c .before .before .before .before .before .before .before .before .before .before .before .before .before .before .before .before .before .before .before .before .args .p) _ (c .before .before .before .before .before .before .before .before .before .before .before .before .before .before .before .before .part-at .ensures)) (c .before .before .before .before .before .before .before .before .before .before .before .before .before .if1 .left) (c .before .before .before .before .before .before .before .before .before .before .before .put-mac .ensures) (c .before .before .before .before .before .before .before .put-middle .ensures) (c .before .before .put-slice .ensures)
 
 pub write-piece-spec : {M : Type 1} → statement M
 write-piece-spec =
@@ -54,7 +54,7 @@ write-piece-spec =
     returns
     put-mac-requires
     put-middle-requires
-    add-put-part
-    put-part-requires
+    add-put-slice
+    put-slice-requires
     same-length
     returns-2)

@@ -24,8 +24,8 @@ total-in-requires c κs = search needs
 enum-told : tie.Need-enum-told
 enum-told c = search needs
 
-put-part-requires : tie.Need-put-part-requires
-put-part-requires c κs = search needs
+put-slice-requires : tie.Need-put-slice-requires
+put-slice-requires c κs = search needs
 
 enum-known-e : tie.Need-enum-known-e
 enum-known-e c = search needs
@@ -34,7 +34,7 @@ same-length : tie.Need-same-length
 same-length c = search needs
 
 returns : tie.Need-returns
-returns c = λ p m. walks-rest (c .before .before .before .before .before .before .before .before .before .before .before .before .args .w) (now (c .before .before .before .before .before .before .before .before .before .before .before .before .args .frame)) (now (c .before .before .before .before .before .before .before .before .before .before .before .before .args .out)) (c .before .before .before .before .before .before .before .before .before .before .before .before .args .at) _ _ (c .before .before .before .before .before .before .before .before .left .ensures) (c .before .before .before .before .before .before .total-in .ensures) p m _ _ (c .before .before .before .before .enum-told .given .1) (c .before .before .put-part .ensures)
+returns c = λ p m. walks-rest (c .before .before .before .before .before .before .before .before .before .before .before .before .args .w) (now (c .before .before .before .before .before .before .before .before .before .before .before .before .args .frame)) (now (c .before .before .before .before .before .before .before .before .before .before .before .before .args .out)) (c .before .before .before .before .before .before .before .before .before .before .before .before .args .at) _ _ (c .before .before .before .before .before .before .before .before .left .ensures) (c .before .before .before .before .before .before .total-in .ensures) p m _ _ (c .before .before .before .before .enum-told .given .1) (c .before .before .put-slice .ensures)
 
 returns-2 : tie.Need-returns-2
 returns-2 c = λ p m. walks-rest-no (c .before .before .before .before .before .before .before .before .before .args .w) (now (c .before .before .before .before .before .before .before .before .before .args .frame)) (now (c .before .before .before .before .before .before .before .before .before .args .out)) (c .before .before .before .before .before .before .before .before .before .args .at) _ _ (c .before .before .before .before .before .left .ensures) (c .before .before .before .total-in .ensures) p m _ (c .before .e .given .1)
@@ -49,7 +49,7 @@ end-rest-spec =
     add-len
     total-in-requires
     enum-told
-    put-part-requires
+    put-slice-requires
     enum-known-e
     same-length
     returns

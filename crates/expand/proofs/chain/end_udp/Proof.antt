@@ -39,11 +39,11 @@ less-requires c κs = search needs
 put-udp-requires : tie.Need-put-udp-requires
 put-udp-requires c κs = search needs
 
-add-put-part : tie.Need-add-put-part
-add-put-part c = search needs
+add-put-slice : tie.Need-add-put-slice
+add-put-slice c = search needs
 
-put-part-requires : tie.Need-put-part-requires
-put-part-requires c κs = search needs
+put-slice-requires : tie.Need-put-slice-requires
+put-slice-requires c κs = search needs
 
 sum-for-requires : tie.Need-sum-for-requires
 sum-for-requires c κs = search needs
@@ -55,7 +55,7 @@ same-length : tie.Need-same-length
 same-length c = search needs
 
 returns-2 : tie.Need-returns-2
-returns-2 c = walks-udp (c .before .before .before .before .before .before .before .before .before .before .before .before .before .before .before .before .before .before .before .before .before .args .w) (c .before .before .before .before .before .before .before .before .before .before .before .before .before .before .before .before .before .before .before .before .before .args .h) (now (c .before .before .before .before .before .before .before .before .before .before .before .before .before .before .before .before .before .before .before .before .before .args .frame)) (now (c .before .before .before .before .before .before .before .before .before .before .before .before .before .before .before .before .before .before .before .before .before .args .out)) (c .before .before .before .before .before .before .before .before .before .before .before .before .before .before .before .before .before .before .before .before .before .args .at) _ _ _ (c .before .before .before .before .before .before .before .before .before .before .before .before .before .before .before .before .before .before .is-unknown .ensures) (c .before .before .before .before .before .before .before .before .before .before .before .before .before .before .before .before .before .if1 .left) (c .before .before .before .before .before .before .before .before .before .before .before .before .before .before .left .ensures) (c .before .before .before .before .before .before .before .before .before .before .before .before .before .total-in .ensures) _ _ _ _ _ (c .before .before .before .before .before .before .before .before .before .before .before .total .given .1) (c .before .before .before .before .before .before .before .before .less .ensures) (c .before .before .before .before .before .before .before .put-udp .ensures) (c .before .before .before .put-part .ensures) (c .sum-for .ensures)
+returns-2 c = walks-udp (c .before .before .before .before .before .before .before .before .before .before .before .before .before .before .before .before .before .before .before .before .before .args .w) (c .before .before .before .before .before .before .before .before .before .before .before .before .before .before .before .before .before .before .before .before .before .args .h) (now (c .before .before .before .before .before .before .before .before .before .before .before .before .before .before .before .before .before .before .before .before .before .args .frame)) (now (c .before .before .before .before .before .before .before .before .before .before .before .before .before .before .before .before .before .before .before .before .before .args .out)) (c .before .before .before .before .before .before .before .before .before .before .before .before .before .before .before .before .before .before .before .before .before .args .at) _ _ _ (c .before .before .before .before .before .before .before .before .before .before .before .before .before .before .before .before .before .before .is-unknown .ensures) (c .before .before .before .before .before .before .before .before .before .before .before .before .before .before .before .before .before .if1 .left) (c .before .before .before .before .before .before .before .before .before .before .before .before .before .before .left .ensures) (c .before .before .before .before .before .before .before .before .before .before .before .before .before .total-in .ensures) _ _ _ _ _ (c .before .before .before .before .before .before .before .before .before .before .before .total .given .1) (c .before .before .before .before .before .before .before .before .less .ensures) (c .before .before .before .before .before .before .before .put-udp .ensures) (c .before .before .before .put-slice .ensures) (c .sum-for .ensures)
 
 returns-3 : tie.Need-returns-3
 returns-3 c = walks-udp-no (c .before .before .before .before .before .before .before .before .before .before .before .args .w) (c .before .before .before .before .before .before .before .before .before .before .before .args .h) (now (c .before .before .before .before .before .before .before .before .before .before .before .args .frame)) (now (c .before .before .before .before .before .before .before .before .before .before .before .args .out)) (c .before .before .before .before .before .before .before .before .before .before .before .args .at) _ _ _ (c .before .before .before .before .before .before .before .before .is-unknown .ensures) (c .before .before .before .before .before .before .before .if1 .left) (c .before .before .before .before .left .ensures) (c .before .before .before .total-in .ensures) _ (c .before .e .given .1)
@@ -75,8 +75,8 @@ end-udp-spec =
     enum-known-total
     less-requires
     put-udp-requires
-    add-put-part
-    put-part-requires
+    add-put-slice
+    put-slice-requires
     sum-for-requires
     enum-known-e
     same-length

@@ -14,8 +14,8 @@ use Rattle.reassembly.proofs.part.place_part.Tie as tie
 bytes-requires : tie.Need-bytes-requires
 bytes-requires c κs = search needs
 
-put-part-requires : tie.Need-put-part-requires
-put-part-requires c κs = search needs
+put-slice-requires : tie.Need-put-slice-requires
+put-slice-requires c κs = search needs
 
 with-part-requires : tie.Need-with-part-requires
 with-part-requires c κs = search needs
@@ -33,14 +33,14 @@ hand-out-requires c κs =
     let a = c .before .before .before .before .before .before .before .before .before .before .before .before .before .before .before .before .before .args in
     let g = c .before .before .before .before .before .before .before .before .before .before .before .before .before .before .before .before .before .pre in
     let z : c .before .before .before .before .before .before .before .with-part .result .key .size ≡ a .s .key .size = rw (c .before .before .before .before .before .before .before .with-part .ensures) in
-    let l : length (c .before .before .before .before .before .before .before .before .before .before .put-part .last .0) ≡ length (a .room .now) = ap length (c .before .before .before .before .before .before .before .before .before .before .put-part .ensures) ∙ length-put (c .before .before .before .before .before .before .before .before .before .before .before .bytes .result) _ (a .room .now) in
+    let l : length (c .before .before .before .before .before .before .before .before .before .before .put-slice .last .0) ≡ length (a .room .now) = ap length (c .before .before .before .before .before .before .before .before .before .before .put-slice .ensures) ∙ length-put (c .before .before .before .before .before .before .before .before .before .before .before .bytes .result) _ (a .room .now) in
     (omega (arith, g .small), omega (arith, g .small, g .room), omega (arith, g .small, g .output))
 
 free-requires : tie.Need-free-requires
 free-requires c κs = search needs
 
 same-length : tie.Need-same-length
-same-length c = ap length (c .before .before .before .before .before .before .before .before .before .before .before .before .before .before .put-part .ensures) ∙ length-put (c .before .before .before .before .before .before .before .before .before .before .before .before .before .before .before .bytes .result) _ (c .before .before .before .before .before .before .before .before .before .before .before .before .before .before .before .before .before .before .before .before .before .args .room .now)
+same-length c = ap length (c .before .before .before .before .before .before .before .before .before .before .before .before .before .before .put-slice .ensures) ∙ length-put (c .before .before .before .before .before .before .before .before .before .before .before .before .before .before .before .bytes .result) _ (c .before .before .before .before .before .before .before .before .before .before .before .before .before .before .before .before .before .before .before .before .before .args .room .now)
 
 same-length-2 : tie.Need-same-length-2
 same-length-2 c = search needs
@@ -48,8 +48,8 @@ same-length-2 c = search needs
 returns : tie.Need-returns
 returns c =
     let a = c .before .before .before .before .before .before .before .before .before .before .before .before .before .before .before .before .before .before .before .before .before .args in
-    let eb : c .before .before .before .before .before .before .before .before .before .before .before .before .before .before .put-part .last .0 ≡ put (a .part .offset .0 * 8) (a .bytes .now) (a .room .now) = rw (c .before .before .before .before .before .before .before .before .before .before .before .before .before .before .before .bytes .ensures) at (rest-told (a .bytes .now) (a .room .now) _ (c .before .before .before .before .before .before .before .before .before .before .before .before .before .before .before .bytes .result) 0 (c .before .before .before .before .before .before .before .before .before .before .before .before .before .before .put-part .ensures)) in
-    does-full (a .s) (a .room .now) (withBytes (a .part) (a .bytes .now)) (c .before .before .before .hand-out .result) (c .before .before .before .before .before .before .before .before .before .before .before .with-part .result) (c .free .result) (c .before .before .before .before .before .before .before .before .before .before .before .before .before .before .put-part .last .0) (a .out .now) _ eb (c .before .before .before .before .before .before .before .before .before .before .before .with-part .ensures) (sym (c .before .before .before .before .before .before .before .before .before .before .is-full .ensures) ∙ c .before .before .before .before .before .before .before .before .before .if1 .taken) (c .free .ensures) (c .before .before .before .hand-out .ensures)
+    let eb : c .before .before .before .before .before .before .before .before .before .before .before .before .before .before .put-slice .last .0 ≡ put (a .part .offset .0 * 8) (a .bytes .now) (a .room .now) = rw (c .before .before .before .before .before .before .before .before .before .before .before .before .before .before .before .bytes .ensures) at (rest-told (a .bytes .now) (a .room .now) _ (c .before .before .before .before .before .before .before .before .before .before .before .before .before .before .before .bytes .result) 0 (c .before .before .before .before .before .before .before .before .before .before .before .before .before .before .put-slice .ensures)) in
+    does-full (a .s) (a .room .now) (withBytes (a .part) (a .bytes .now)) (c .before .before .before .hand-out .result) (c .before .before .before .before .before .before .before .before .before .before .before .with-part .result) (c .free .result) (c .before .before .before .before .before .before .before .before .before .before .before .before .before .before .put-slice .last .0) (a .out .now) _ eb (c .before .before .before .before .before .before .before .before .before .before .before .with-part .ensures) (sym (c .before .before .before .before .before .before .before .before .before .before .is-full .ensures) ∙ c .before .before .before .before .before .before .before .before .before .if1 .taken) (c .free .ensures) (c .before .before .before .hand-out .ensures)
 
 same-length-3 : tie.Need-same-length-3
 same-length-3 c = search needs
@@ -57,15 +57,15 @@ same-length-3 c = search needs
 returns-2 : tie.Need-returns-2
 returns-2 c =
     let a = c .before .before .before .before .before .before .before .before .before .before .before .before .args in
-    let eb : c .before .before .before .before .before .put-part .last .0 ≡ put (a .part .offset .0 * 8) (a .bytes .now) (a .room .now) = rw (c .before .before .before .before .before .before .bytes .ensures) at (rest-told (a .bytes .now) (a .room .now) _ (c .before .before .before .before .before .before .bytes .result) 0 (c .before .before .before .before .before .put-part .ensures)) in
-    does-kept (a .s) (a .room .now) (withBytes (a .part) (a .bytes .now)) (c .before .before .with-part .result) (c .before .before .before .before .before .put-part .last .0) (a .out .now) eb (c .before .before .with-part .ensures) (sym (c .before .is-full .ensures) ∙ c .if1 .left)
+    let eb : c .before .before .before .before .before .put-slice .last .0 ≡ put (a .part .offset .0 * 8) (a .bytes .now) (a .room .now) = rw (c .before .before .before .before .before .before .bytes .ensures) at (rest-told (a .bytes .now) (a .room .now) _ (c .before .before .before .before .before .before .bytes .result) 0 (c .before .before .before .before .before .put-slice .ensures)) in
+    does-kept (a .s) (a .room .now) (withBytes (a .part) (a .bytes .now)) (c .before .before .with-part .result) (c .before .before .before .before .before .put-slice .last .0) (a .out .now) eb (c .before .before .with-part .ensures) (sym (c .before .is-full .ensures) ∙ c .if1 .left)
 
 pub place-part-spec : {M : Type 1} → statement M
 place-part-spec =
     tie.close
     (tie.spec
     bytes-requires
-    put-part-requires
+    put-slice-requires
     with-part-requires
     is-full-requires
     cast-size

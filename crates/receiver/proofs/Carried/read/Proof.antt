@@ -51,11 +51,11 @@ enum-known-size-2 c = search needs
 sub-n : tie.Need-sub-n
 sub-n c = later-within _ _ _ _ _ (c .before .before .before .before .read .ensures) _ _ _ _ (c .before .size2 .given .1)
 
-slice-aggregate-put-part : tie.Need-slice-aggregate-put-part
-slice-aggregate-put-part c = search needs
+slice-aggregate-put-slice : tie.Need-slice-aggregate-put-slice
+slice-aggregate-put-slice c = search needs
 
-put-part-requires : tie.Need-put-part-requires
-put-part-requires c κs = search needs
+put-slice-requires : tie.Need-put-slice-requires
+put-slice-requires c κs = search needs
 
 key-of-requires-2 : tie.Need-key-of-requires-2
 key-of-requires-2 c κs = search needs
@@ -82,7 +82,7 @@ returns-3 : tie.Need-returns-3
 returns-3 c = (let gs = those present (c .before .before .before .before .before .before .before .before .before .before .before .before .before .before .args .gateways) in rw (c .part .ensures) (carries-first gs (c .before .before .before .before .before .before .before .before .before .before .before .before .before .before .args .contexts .now) (c .before .before .before .before .before .before .before .before .before .before .before .before .before .before .args .frame .now) _ (c .before .before .before .before .before .before .before .before .before .before .before .admit .ensures) _ (c .before .before .before .before .before .before .before .before .before .a .given .1) _ _ (c .before .before .before .before .before .before .read .ensures) _ _ _ (c .before .key-of .ensures) _ _ (c .before .before .before .size .given .1)))
 
 returns-4 : tie.Need-returns-4
-returns-4 c = (let gs = those present (c .before .before .before .before .before .before .before .before .before .before .before .before .before .before .before .before .before .args .gateways) in rw (c .part2 .ensures) (carries-later gs (c .before .before .before .before .before .before .before .before .before .before .before .before .before .before .before .before .before .args .contexts .now) (c .before .before .before .before .before .before .before .before .before .before .before .before .before .before .before .before .before .args .frame .now) _ (c .before .before .before .before .before .before .before .before .before .before .before .before .before .before .admit .ensures) _ (c .before .before .before .before .before .before .before .before .before .before .before .before .a .given .1) _ _ (c .before .before .before .before .before .before .before .before .before .read .ensures) _ _ _ (c .before .key-of2 .ensures) _ _ (c .before .before .before .before .before .before .size2 .given .1) (omega arith) _ (c .before .before .before .put-part .ensures)))
+returns-4 c = (let gs = those present (c .before .before .before .before .before .before .before .before .before .before .before .before .before .before .before .before .before .args .gateways) in rw (c .part2 .ensures) (carries-later gs (c .before .before .before .before .before .before .before .before .before .before .before .before .before .before .before .before .before .args .contexts .now) (c .before .before .before .before .before .before .before .before .before .before .before .before .before .before .before .before .before .args .frame .now) _ (c .before .before .before .before .before .before .before .before .before .before .before .before .before .before .admit .ensures) _ (c .before .before .before .before .before .before .before .before .before .before .before .before .a .given .1) _ _ (c .before .before .before .before .before .before .before .before .before .read .ensures) _ _ _ (c .before .key-of2 .ensures) _ _ (c .before .before .before .before .before .before .size2 .given .1) (omega arith) _ (c .before .before .before .put-slice .ensures)))
 
 returns-5 : tie.Need-returns-5
 returns-5 c = (let gs = those present (c .before .before .before .before .before .before .before .before .before .before .before .before .before .args .gateways) in rw (c .refused2 .ensures) (carries-refused gs (c .before .before .before .before .before .before .before .before .before .before .before .before .before .args .contexts .now) (c .before .before .before .before .before .before .before .before .before .before .before .before .before .args .frame .now) _ (c .before .before .before .before .before .before .before .before .before .before .admit .ensures) _ (c .before .before .before .before .before .before .before .before .a .given .1) _ _ (c .before .before .before .before .before .read .ensures) _ (c .before .before .e .given .1)))
@@ -109,8 +109,8 @@ read-spec =
     part-requires
     enum-known-size-2
     sub-n
-    slice-aggregate-put-part
-    put-part-requires
+    slice-aggregate-put-slice
+    put-slice-requires
     key-of-requires-2
     part-requires-2
     enum-known-e

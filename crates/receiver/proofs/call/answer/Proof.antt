@@ -21,11 +21,11 @@ returns c =
     let n : length (a .c .bytes) ≡ 456 = unmapped (a .c .bytes) _ (c .before .before .before .before .before .before .good .0 .1 .1 .1 .1 .1 .1 .1 .0 .1 .0 .1) in
     told-short (a .c) _ (c .before .size .ensures .0) n (c .before .before .before .enum-told2 .given .1) _ (c .if1 .taken)
 
-slice-aggregate-put-part : tie.Need-slice-aggregate-put-part
-slice-aggregate-put-part c = search needs
+slice-aggregate-put-slice : tie.Need-slice-aggregate-put-slice
+slice-aggregate-put-slice c = search needs
 
-put-part-requires : tie.Need-put-part-requires
-put-part-requires c κs = search needs
+put-slice-requires : tie.Need-put-slice-requires
+put-slice-requires c κs = search needs
 
 enum-known-what : tie.Need-enum-known-what
 enum-known-what c = search needs
@@ -40,7 +40,7 @@ returns-3 : tie.Need-returns-3
 returns-3 c =
     let a = c .before .before .before .before .before .before .before .before .before .before .before .args in
     let n : length (a .c .bytes) ≡ 456 = unmapped (a .c .bytes) _ (c .before .before .before .before .before .before .before .before .before .before .before .good .0 .1 .1 .1 .1 .1 .1 .1 .0 .1 .0 .1) in
-    told-whole (a .c) _ (c .before .before .before .before .before .before .size .ensures .0) n (c .before .before .before .before .before .before .before .before .enum-told2 .given .1) _ (c .before .before .before .before .before .if1 .left) _ (c .before .before .put-part .ensures)
+    told-whole (a .c) _ (c .before .before .before .before .before .before .size .ensures .0) n (c .before .before .before .before .before .before .before .before .enum-told2 .given .1) _ (c .before .before .before .before .before .if1 .left) _ (c .before .before .put-slice .ensures)
 
 returns-4 : tie.Need-returns-4
 returns-4 c = told-refused (c .before .before .before .before .args .c) _ (c .before .what .given .1) _
@@ -53,8 +53,8 @@ answer-spec =
     enum-told-2
     size-requires
     returns
-    slice-aggregate-put-part
-    put-part-requires
+    slice-aggregate-put-slice
+    put-slice-requires
     enum-known-what
     returns-2
     same-length

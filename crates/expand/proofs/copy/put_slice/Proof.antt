@@ -8,8 +8,8 @@ use denote.Ref.{now}
 use borrow.Author.Needs.{needs}
 use Rattle.octets.specs.Write.{put}
 use Rattle.expand.proofs.CopyLaws.{part, part-within, put-more, put-end, least-is, below, up, falls}
-use Rattle.expand.proofs.copy.put_part.Statement.{statement}
-use Rattle.expand.proofs.copy.put_part.Tie as tie
+use Rattle.expand.proofs.copy.put_slice.Statement.{statement}
+use Rattle.expand.proofs.copy.put_slice.Tie as tie
 
 abbrev Inv-loop : tie.InvT-loop
 Inv-loop buf₀ at s from n m i₀ buf i = (i ≤ m) × (length (part s from n) ≤ length s - from) × (m ≡ min (length (part s from n)) (length buf - at)) × (length buf ≡ length buf₀) × (put (at + i) (drop i (part s from n)) buf ≡ put at (part s from n) buf₀)
@@ -82,8 +82,8 @@ returns c =
     let l = c .before .loop in
     sym (put-end (part (now (a .s)) (a .from) (a .n)) (l .buf) (a .at) (l .i) _ (l .inv .2) (c .loop-test .left)) ∙ l .inv .4
 
-pub put-part-spec : {M : Type 1} → statement M
-put-part-spec =
+pub put-slice-spec : {M : Type 1} → statement M
+put-slice-spec =
     tie.close
     (tie.spec
     Inv-loop
