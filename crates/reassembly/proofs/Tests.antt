@@ -76,22 +76,32 @@ and-gt a b u h = rw (lt-leb a b h) refl
 pub and-same : {r : Bool} (a b : ℕ) (u : Bool) → a ≡ b → r ≡ u → r ≡ (eqb a b && u)
 and-same a b u h e = rw (eq-eqb a b h) e
 
-pub and-other : (a b : ℕ) (u : Bool) → (a ≡ b → ⊥) → false ≡ (eqb a b && u)
-and-other a b u h = rw (ne-eqb a b h) refl
-
 pub or-same : (a b : ℕ) (u : Bool) → a ≡ b → true ≡ (eqb a b || u)
 or-same a b u h = rw (eq-eqb a b h) refl
 
 pub or-other : {r : Bool} (a b : ℕ) (u : Bool) → (a ≡ b → ⊥) → r ≡ u → r ≡ (eqb a b || u)
 or-other a b u h e = rw (ne-eqb a b h) e
 
-pub or-lt : (a b : ℕ) (u : Bool) → a < b → true ≡ (ltb a b || u)
-or-lt a b u h = rw (lt-ltb a b h) refl
-
 pub or-ge : {r : Bool} (a b : ℕ) (u : Bool) → b ≤ a → r ≡ u → r ≡ (ltb a b || u)
 or-ge a b u h e = rw (le-ltb a b h) e
 
-pub no-le : (a b : ℕ) → b < a → false ≡ leb a b
-no-le a b h = rw (lt-leb a b h) refl
+-- ---- `a && b` and `a || b` as they stand: the first test is the answer, where it decides
+pub and-stops : {b : Bool} (t u : Bool) → b ≡ t → b ≡ false → b ≡ (t && u)
+and-stops t u p h = rw (← p, h) refl
 
-pub ruleset tests = (and-told, and-told-not, not-told, not-told-not, or-told, or-told-not, and-le, and-gt, and-same, and-other, or-same, or-other, or-lt, or-ge, no-le)
+pub not-stops : {b : Bool} (t u : Bool) → b ≡ t → not b ≡ false → not b ≡ (not t && u)
+not-stops t u p h = rw (← p, h) refl
+
+pub or-not-stops : {b : Bool} (t u : Bool) → b ≡ t → not b ≡ true → not b ≡ (not t || u)
+or-not-stops t u p h = rw (← p, h) refl
+
+pub and-differs : (a b : ℕ) (u : Bool) → (a ≡ b → ⊥) → eqb a b ≡ (eqb a b && u)
+and-differs a b u h = rw (ne-eqb a b h) refl
+
+pub or-stops : (a b : ℕ) (u : Bool) → a < b → ltb a b ≡ (ltb a b || u)
+or-stops a b u h = rw (lt-ltb a b h) refl
+
+pub both-greater : (a b c d : ℕ) → b < a → d < c → leb a b ≡ leb c d
+both-greater a b c d h g = rw (lt-leb a b h, lt-leb c d g) refl
+
+pub ruleset tests = (and-told, and-told-not, not-told, not-told-not, or-told, or-told-not, and-le, and-gt, and-same, or-same, or-other, or-ge, and-stops, and-differs, or-stops, both-greater)

@@ -63,10 +63,7 @@ impl Node {
     pub fn same(self, b: Node) -> bool
         ensures { λ r. ⌜ r ≡ sameNode self b ⌝ }
     {
-        if self.kind == b.kind {
-            return self.number == b.number;
-        }
-        false
+        self.kind == b.kind && self.number == b.number
     }
 
     pub fn is_present(self) -> bool
@@ -95,10 +92,7 @@ impl Source {
     {
         let node = self.node;
         let other = b.node;
-        if node.same(other) {
-            return self.pan == b.pan;
-        }
-        false
+        node.same(other) && self.pan == b.pan
     }
 
     pub fn is_present(self) -> bool
@@ -132,14 +126,7 @@ impl Key {
         let dst = self.dst;
         let other_src = b.src;
         let other_dst = b.dst;
-        if src.same(other_src) {
-            if dst.same(other_dst) {
-                if self.size == b.size {
-                    return self.tag == b.tag;
-                }
-            }
-        }
-        false
+        src.same(other_src) && (dst.same(other_dst) && (self.size == b.size && self.tag == b.tag))
     }
 }
 
@@ -176,22 +163,16 @@ impl Slot {
     pub fn has_key(self, k: Key) -> bool
         ensures { λ r. ⌜ r ≡ isKey k self ⌝ }
     {
-        if self.live == 1 {
-            let own = self.key;
-            return own.same(k);
-        }
-        false
+        let own = self.key;
+        self.live == 1 && own.same(k)
     }
 
     pub fn is_of(self, g: Source) -> bool
         ensures { λ r. ⌜ r ≡ isOf g self ⌝ }
     {
-        if self.live == 1 {
-            let own = self.key;
-            let src = own.src;
-            return src.same(g);
-        }
-        false
+        let own = self.key;
+        let src = own.src;
+        self.live == 1 && src.same(g)
     }
 }
 
@@ -202,10 +183,5 @@ pub const LIFETIME: u64 = 60000;
 pub fn is_expired(live: u64, since: u64, time: u64) -> bool
     ensures { λ r. ⌜ r ≡ (eqb live 1 && leb 60000 (time - since)) ⌝ }
 {
-    if live == 1 {
-        if since <= time {
-            return LIFETIME <= time - since;
-        }
-    }
-    false
+    live == 1 && (since <= time && LIFETIME <= time - since)
 }

@@ -206,10 +206,7 @@ fn is_unfit(seats: [Source; 4], size: usize, g: Source) -> bool
     requires { ⌜ size ≤ 4 ⌝ }
     ensures { λ r. ⌜ r ≡ unfit (take size seats) g ⌝ }
 {
-    if g.is_present() {
-        return 1 < count_seats(seats, size, g);
-    }
-    true
+    !g.is_present() || 1 < count_seats(seats, size, g)
 }
 
 fn has_unfit(seats: [Source; 4], size: usize) -> bool
@@ -231,10 +228,7 @@ fn has_unfit(seats: [Source; 4], size: usize) -> bool
 pub fn is_short(mem: usize, out: usize) -> bool
     ensures { λ r. ⌜ r ≡ (ltb mem 16384 || ltb out 2047) ⌝ }
 {
-    if mem < LENT {
-        return true;
-    }
-    out < LARGEST
+    mem < LENT || out < LARGEST
 }
 
 // Whether an address is one of the gateways.
@@ -255,10 +249,7 @@ pub fn is_gateway(gateways: [Source; 4], a: Source) -> bool
 fn is_seat_of(g: Source, a: Source) -> bool
     ensures { λ r. ⌜ r ≡ (present g && sameSource a g) ⌝ }
 {
-    if g.is_present() {
-        return a.same(g);
-    }
-    false
+    g.is_present() && a.same(g)
 }
 
 // The lowest free slot, or 8.
@@ -310,13 +301,7 @@ pub fn count_held(t: Table, g: Source) -> usize
 fn is_idle_other(t: Table, h: Source, g: Source) -> bool
     ensures { λ r. ⌜ r ≡ (present h && (not (sameSource h g) && eqb (held h (t .slots)) 0)) ⌝ }
 {
-    if h.is_present() {
-        if h.same(g) {
-            return false;
-        }
-        return count_held(t, h) == 0;
-    }
-    false
+    h.is_present() && (!h.same(g) && count_held(t, h) == 0)
 }
 
 fn count_idle_others(t: Table, g: Source) -> usize

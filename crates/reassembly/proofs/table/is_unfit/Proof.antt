@@ -1,7 +1,8 @@
-use mathlib.Core.Path.{_≡_, ap, sym, _∙_}
+use mathlib.Core.Path.{ap}
 use lib.Dec.{ltb}
+use borrow.Author.Tests.{not-false}
 use Rattle.reassembly.specs.Fresh.{unfit}
-use Rattle.reassembly.proofs.Tests.{or-told, or-told-not}
+use Rattle.reassembly.proofs.Tests.{or-told-not, or-not-stops}
 use borrow.Author.Needs.{needs}
 use Rattle.reassembly.proofs.table.is_unfit.Statement.{statement}
 use Rattle.reassembly.proofs.table.is_unfit.Tie as tie
@@ -14,11 +15,11 @@ count-seats-requires c κs = search needs
 
 returns : tie.Need-returns
 unfolding unfit
-returns c = or-told-not _ _ (c .before .before .is-present .ensures) (c .before .if1 .taken) (ap (ltb 1) (c .count-seats .ensures))
+returns c = or-not-stops _ _ (c .before .is-present .ensures) (c .if1 .taken)
 
 returns-2 : tie.Need-returns-2
 unfolding unfit
-returns-2 c = or-told _ _ (c .before .is-present .ensures) (c .if1 .left)
+returns-2 c = or-told-not _ _ (c .before .before .is-present .ensures) (not-false _ (c .before .if1 .left)) (ap (ltb 1) (c .count-seats .ensures))
 
 pub is-unfit-spec : {M : Type 1} → statement M
 is-unfit-spec = tie.close (tie.spec is-present-requires count-seats-requires returns returns-2)
