@@ -2,7 +2,7 @@
 ghost use mathlib.Core.Path.{_≡_};
 ghost use mathlib.Core.Bool.{not};
 ghost use Prim.Native.Nat.{_≤_};
-ghost use Rattle.octets.specs.Write.{put, ofWritten, wrote, over, le16Bytes};
+ghost use Rattle.octets.specs.Write.{put, Emits, le16Bytes};
 ghost use Rattle.ieee802154.specs.Address.{ofAddress, ofEui, ofLinkLocal, isBroadcast, fromBytes, eui64};
 ghost use Rattle.ieee802154.specs.Address.{linkLocalOf, addressLength, addressBytes};
 ghost use Rattle.ieee802154.specs.Addressing.{panOr, panNumber, fieldLength, modeOf, fieldBytes};
@@ -33,8 +33,7 @@ impl Pan {
 
     // Writes its two bytes as a header has them, the low one first.
     pub fn emit_bytes(self, buf: &mut [u8]) -> Written
-        ensures { λ r. ⌜ (ofWritten r ≡ wrote 2 (now (buf .entry)))
-            × (now (buf .exit) ≡ over 2 (le16Bytes (self .0)) (now (buf .entry))) ⌝ }
+        ensures { λ r. ⌜ Emits r 2 (le16Bytes (self .0)) (now (buf .entry)) (now (buf .exit)) ⌝ }
     {
         if buf.len() < 2 {
             return Written::Refused(Refusal::NoRoom);
@@ -140,8 +139,7 @@ impl Address {
 
     // Writes the bytes that `from_bytes` takes, the first byte high; none of an absent address.
     pub fn emit_bytes(self, buf: &mut [u8]) -> Written
-        ensures { λ r. ⌜ (ofWritten r ≡ wrote (addressLength self) (now (buf .entry)))
-            × (now (buf .exit) ≡ over (addressLength self) (addressBytes self) (now (buf .entry))) ⌝ }
+        ensures { λ r. ⌜ Emits r (addressLength self) (addressBytes self) (now (buf .entry)) (now (buf .exit)) ⌝ }
     {
         let n = self.len();
         if buf.len() < n {

@@ -1,6 +1,6 @@
 // MAC headers, read and written.
 ghost use mathlib.Core.Path.{_≡_};
-ghost use Rattle.octets.specs.Write.{put, ofWritten, wrote, over};
+ghost use Rattle.octets.specs.Write.{put, Emits};
 ghost use Rattle.ieee802154.specs.Mac.{ofParsed, ofSequence, sequence, sequenceOf, sequenceOr, suppresses};
 ghost use Rattle.ieee802154.specs.Mac.{reprOf, controlFor, headerRest, afterControl, header, mac, frontLength};
 ghost use Rattle.ieee802154.specs.Mac.{lengthOf, frontBytes, sourceBytes, backBytes, bytesOf};
@@ -267,8 +267,7 @@ impl Repr {
     // Writes the header into the front of the room. A missing sequence number is left out where it may be; else it is
     // written as zero, as a missing PAN is.
     pub fn emit(self, buf: &mut [u8]) -> Written
-        ensures { λ r. ⌜ (ofWritten r ≡ wrote (lengthOf self) (now (buf .entry)))
-            × (now (buf .exit) ≡ over (lengthOf self) (bytesOf self) (now (buf .entry))) ⌝ }
+        ensures { λ r. ⌜ Emits r (lengthOf self) (bytesOf self) (now (buf .entry)) (now (buf .exit)) ⌝ }
     {
         let n = self.buffer_len();
         if buf.len() < n {

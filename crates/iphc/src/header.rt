@@ -1,7 +1,7 @@
 // Compressed IPv6 headers (RFC 6282, 3).
 ghost use mathlib.Core.Path.{_≡_};
 ghost use Rattle.iphc.specs.Iphc.{reprOf, behind, iphc};
-ghost use Rattle.octets.specs.Write.{ofWritten, wrote, over};
+ghost use Rattle.octets.specs.Write.{Emits};
 ghost use Rattle.iphc.specs.Emit.{lengthOf, bytesOf};
 ghost use Rattle.iphc.specs.Answers.{ofParsed};
 use super::emit::addresses_len;
@@ -152,8 +152,7 @@ impl Repr {
 
     // Writes the header into the front of the room. Traffic class and flow label are always elided.
     pub fn emit(self, buf: &mut [u8]) -> Written
-        ensures { λ r. ⌜ (ofWritten r ≡ wrote (lengthOf self) (now (buf .entry)))
-            × (now (buf .exit) ≡ over (lengthOf self) (bytesOf self) (now (buf .entry))) ⌝ }
+        ensures { λ r. ⌜ Emits r (lengthOf self) (bytesOf self) (now (buf .entry)) (now (buf .exit)) ⌝ }
     {
         let src_addr = self.src_addr;
         let ll_src_addr = self.ll_src_addr;

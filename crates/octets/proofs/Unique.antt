@@ -6,7 +6,7 @@ use mathlib.Core.Path.{_≡_, refl, sym, ap, _∙_}
 use Rattle.octets.specs.Read.{Answer, is, refused, Placed, Read, choose}
 use Rattle.octets.specs.Refusal.{numberOf}
 use Rattle.octets.specs.Answers.{ofByte, ofWord, ofWide, ofLong, ofSkip}
-use Rattle.octets.specs.Write.{ofWritten, wrote, over}
+use Rattle.octets.specs.Write.{ofWritten, wrote, Emits}
 use Rattle.octets.specs.declared.refusal.Refusal.{Refusal}
 use Rattle.octets.specs.declared.refusal.Refusal.the-variants.{Ended, NotThisHeader, Unsupported, BadLength, NoContext, NoAddress, NoRoom, EarlierTime, NotGateway, BadPart, Clash, NoSlot, NotExpanded, BadGateways, BadBlock, NotCut, BadChecksum, NotHeld}
 use Rattle.octets.specs.declared.cursor.ByteRead.{ByteRead}
@@ -105,5 +105,5 @@ written-one = one ofWritten (λ (p : ℕ). Written.Bytes p) Written.Refused inv
     inv (Written.Refused e) = ap Written.Refused (refusal-back e)
 
 -- as for the contract of an `emit`: the answer, and the room afterwards
-pub emit-one : (n : ℕ) (bs room : List ℕ) (y z : Written) (l m : List ℕ) → (ofWritten y ≡ wrote n room) × (l ≡ over n bs room) → (ofWritten z ≡ wrote n room) × (m ≡ over n bs room) → (y ≡ z) × (l ≡ m)
+pub emit-one : (n : ℕ) (bs room : List ℕ) (y z : Written) (l m : List ℕ) → Emits y n bs room l → Emits z n bs room m → (y ≡ z) × (l ≡ m)
 emit-one n bs room y z l m p q = (unique ofWritten written-one (wrote n room) y z (p .0) (q .0), p .1 ∙ sym (q .1))

@@ -1,5 +1,6 @@
 -- What a writer writes: a number's bytes; and where a header's bytes go in the lent room.
 use Prim.Native.Nat.{ℕ, _+_, _*_, _/_, _%_, _^_}
+use mathlib.Core.Path.{_≡_}
 use mathlib.Core.List.{List, [], _∷_, _++_}
 use lib.ListN.{length, set, drop}
 use lib.Dec.{leb}
@@ -45,3 +46,7 @@ wrote n room = choose (leb n (length room)) (is n) (refused 7)
 -- the room afterwards: the n bytes bs at its front and the rest as it was, or all as it was
 abbrev pub over : ℕ → List ℕ → List ℕ → List ℕ
 over n bs room = choose (leb n (length room)) (bs ++ drop n room) room
+
+-- the answer of a writer of the n bytes bs, and the room after it
+abbrev pub Emits : Written → ℕ → List ℕ → List ℕ → List ℕ → Type 0
+Emits r n bs room after = (ofWritten r ≡ wrote n room) × (after ≡ over n bs room)

@@ -1,7 +1,7 @@
 // Fragment headers (RFC 4944, 5.3).
 ghost use mathlib.Core.Path.{_≡_};
 ghost use Prim.Native.Nat.{_*_};
-ghost use Rattle.octets.specs.Write.{ofWritten, wrote, over};
+ghost use Rattle.octets.specs.Write.{Emits};
 ghost use Rattle.sixlowpan.specs.Key.{ofKey, keyOf};
 ghost use Rattle.sixlowpan.specs.Frag.{frag, fragRest, ofParsed, sizeOf, tagOf, offsetOf, isFirst, lengthOf};
 ghost use Rattle.sixlowpan.specs.Frag.{bytesOf};
@@ -176,8 +176,7 @@ impl Repr {
 
     // Writes the header into the front of the room, its size masked to 11 bits.
     pub fn emit(self, buf: &mut [u8]) -> Written
-        ensures { λ r. ⌜ (ofWritten r ≡ wrote (lengthOf self) (now (buf .entry)))
-            × (now (buf .exit) ≡ over (lengthOf self) (bytesOf self) (now (buf .entry))) ⌝ }
+        ensures { λ r. ⌜ Emits r (lengthOf self) (bytesOf self) (now (buf .entry)) (now (buf .exit)) ⌝ }
     {
         let n = self.buffer_len();
         if buf.len() < n {

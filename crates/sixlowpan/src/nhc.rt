@@ -2,7 +2,7 @@
 ghost use mathlib.Core.Path.{_≡_};
 ghost use Prim.Native.Nat.{_≤_, _<_};
 ghost use Rattle.octets.specs.Answers.{ofWord};
-ghost use Rattle.octets.specs.Write.{ofWritten, wrote, over, put};
+ghost use Rattle.octets.specs.Write.{Emits, put};
 ghost use Rattle.sixlowpan.specs.Nhc.{ofNhc, nhcOf, nhc};
 ghost use Rattle.sixlowpan.specs.NhcExt.{ofExt, idOf, eidOf, protocolOf, ext, extRest, extFirst, extLength};
 ghost use Rattle.sixlowpan.specs.NhcExt.{extBytes};
@@ -204,8 +204,7 @@ impl ExtHeaderRepr {
 
     // Writes the header into the front of the room.
     pub fn emit(self, buf: &mut [u8]) -> Written
-        ensures { λ r. ⌜ (ofWritten r ≡ wrote (extLength self) (now (buf .entry)))
-            × (now (buf .exit) ≡ over (extLength self) (extBytes self) (now (buf .entry))) ⌝ }
+        ensures { λ r. ⌜ Emits r (extLength self) (extBytes self) (now (buf .entry)) (now (buf .exit)) ⌝ }
     {
         let n = self.buffer_len();
         if buf.len() < n {
@@ -472,8 +471,7 @@ impl UdpNhcRepr {
 
     // Writes the header into the front of the room.
     pub fn emit(self, buf: &mut [u8]) -> Written
-        ensures { λ r. ⌜ (ofWritten r ≡ wrote (udpLength self) (now (buf .entry)))
-            × (now (buf .exit) ≡ over (udpLength self) (udpBytes self) (now (buf .entry))) ⌝ }
+        ensures { λ r. ⌜ Emits r (udpLength self) (udpBytes self) (now (buf .entry)) (now (buf .exit)) ⌝ }
     {
         let n = self.buffer_len();
         if buf.len() < n {
