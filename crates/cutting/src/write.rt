@@ -2,7 +2,7 @@
 ghost use mathlib.Core.Path.{_≡_};
 ghost use Prim.Native.Nat.{_+_, _≤_, min};
 ghost use lib.ListN.{length};
-ghost use Rattle.octets.specs.Write.{ofWritten, wrote, over, put};
+ghost use Rattle.octets.specs.Write.{ofWritten, Emits, put};
 ghost use Rattle.sixlowpan.specs.Frag.{bytesOf, lengthOf};
 ghost use Rattle.cutting.specs.Head.{headOf, covers};
 ghost use Rattle.cutting.specs.Cut.{planOf, middle, middleLength, partOf, partAt, frameOf};
@@ -140,9 +140,8 @@ fn put_middle(buf: &mut [u8], at: usize, d: &[u8], h: Head, l: Link, p: Piece)
 // Writes the frame of a piece.
 fn write_piece(d: &[u8], l: Link, h: Head, plan: Plan, p: Piece, out: &mut [u8]) -> Written
     requires { ⌜ (length (now d) ≤ 2047) × (h ≡ headOf l (now d)) × (plan ≡ planOf l (now d)) ⌝ }
-    ensures { λ r. ⌜ (ofWritten r ≡ wrote (length (frameOf l (now (d .entry)) p)) (now (out .entry)))
-        × (now (out .exit)
-        ≡ over (length (frameOf l (now (d .entry)) p)) (frameOf l (now (d .entry)) p) (now (out .entry))) ⌝ }
+    ensures { λ r. ⌜ Emits r (length (frameOf l (now (d .entry)) p)) (frameOf l (now (d .entry)) p)
+        (now (out .entry)) (now (out .exit)) ⌝ }
 {
     let middle = middle_len(plan.head, p);
     let from = part_at(plan.covers, p);
