@@ -1,5 +1,5 @@
 -- Laws of `put`, and what a writer's calls and tests say of it. `search puts` proves from these a `returns` of a writer.
-use Prim.Native.Nat.{ℕ, suc, _+_, _≤_, _<_}
+use Prim.Native.Nat.{ℕ, suc, _+_, _*_, _/_, _%_, _^_, _≤_, _<_}
 use native.Mathlib.Nat.{add-assoc, add-zero, zero-add, le-trans}
 use native.Mathlib.Numerals.{add-one}
 use native.Mathlib.Omega.{arith}
@@ -88,6 +88,43 @@ pub stored-put : (at : ℕ) (bs l : List ℕ) → stored at bs l ≡ put at bs l
 unfolding put
 stored-put at [] l = refl
 stored-put at (b ∷ bs) l = stores-put at 1 bs (set l at b)
+
+-- ---- a number's bytes, each taken from the number itself: what halves, and halves of halves, leave of them
+abbrev pub be32Direct : ℕ → List ℕ
+be32Direct x = x / 2 ^ 24 ∷ x / 2 ^ 16 % 256 ∷ x / 256 % 256 ∷ x % 256 ∷ []
+
+abbrev pub be64Direct : ℕ → List ℕ
+be64Direct x = x / 2 ^ 56 ∷ x / 2 ^ 48 % 256 ∷ x / 2 ^ 40 % 256 ∷ x / 2 ^ 32 % 256 ∷ x / 2 ^ 24 % 256 ∷ x / 2 ^ 16 % 256 ∷ x / 256 % 256 ∷ x % 256 ∷ []
+
+pub be32-direct : (x : ℕ) → be32Direct x ≡ be32Bytes x
+unfolding be32Bytes be16Bytes
+be32-direct x =
+    let h3 : x / 2 ^ 24 ≡ x / 2 ^ 16 / 256 = omega arith in
+    let h1 : x / 256 % 256 ≡ x % 2 ^ 16 / 256 = omega arith in
+    let h0 : x % 256 ≡ x % 2 ^ 16 % 256 = omega arith in
+    rw (h3, h1, h0)
+
+be64-halves : (x : ℕ) → be64Direct x ≡ be32Direct (x / 2 ^ 32) ++ be32Direct (x % 2 ^ 32)
+be64-halves x =
+    let h7 : x / 2 ^ 56 ≡ x / 2 ^ 32 / 2 ^ 24 = omega arith in
+    let h6 : x / 2 ^ 48 ≡ x / 2 ^ 32 / 2 ^ 16 = omega arith in
+    let h5 : x / 2 ^ 40 ≡ x / 2 ^ 32 / 256 = omega arith in
+    let h3 : x / 2 ^ 24 % 256 ≡ x % 2 ^ 32 / 2 ^ 24 = omega arith in
+    let h2 : x / 2 ^ 16 % 256 ≡ x % 2 ^ 32 / 2 ^ 16 % 256 = omega arith in
+    let h1 : x / 256 % 256 ≡ x % 2 ^ 32 / 256 % 256 = omega arith in
+    let h0 : x % 256 ≡ x % 2 ^ 32 % 256 = omega arith in
+    rw (h7, h6, h5, h3, h2, h1, h0)
+
+pub be64-direct : (x : ℕ) → be64Direct x ≡ be64Bytes x
+unfolding be64Bytes
+be64-direct x =
+    be64-halves x
+    ∙ ap (λ h. h ++ be32Direct (x % 2 ^ 32)) (be32-direct (x / 2 ^ 32))
+    ∙ ap (λ l. be32Bytes (x / 2 ^ 32) ++ l) (be32-direct (x % 2 ^ 32))
+
+-- straight stores of these
+pub direct-put : (at : ℕ) (bs cs l : List ℕ) → bs ≡ cs → stored at bs l ≡ put at cs l
+direct-put at bs cs l e = stored-put at bs l ∙ ap (λ x. put at x l) e
 
 -- ---- the test of the room, where a call gave the length; and the case that a match found
 pub room-short : {A : Type 0} {r : A} {n : ℕ} (a b : ℕ) (x y : A) → n ≡ a → b < n → r ≡ y → r ≡ choose (leb a b) x y

@@ -18,7 +18,8 @@ pub fn put_byte(buf: &mut [u8], at: usize, x: u8)
     }
 }
 
-// The high byte first. The room is tested once: where it ends within the number, each half tests for itself.
+// The high byte first. The room is tested once: where it ends within the number, each half tests for itself; else each
+// byte is taken from the number itself, and the compiler makes one store of them.
 pub fn put_be16(buf: &mut [u8], at: usize, x: u16)
     ensures { λ _. ⌜ now (buf .exit) ≡ put at (be16Bytes x) (now (buf .entry)) ⌝ }
 {
@@ -42,10 +43,10 @@ pub fn put_be32(buf: &mut [u8], at: usize, x: u32)
             put_be16(buf, at + 2, (x % 0x1_0000) as u16);
             return;
         }
-        buf[at] = (x / 0x1_0000 / 256) as u8;
+        buf[at] = (x / 0x100_0000) as u8;
         buf[at + 1] = (x / 0x1_0000 % 256) as u8;
-        buf[at + 2] = (x % 0x1_0000 / 256) as u8;
-        buf[at + 3] = (x % 0x1_0000 % 256) as u8;
+        buf[at + 2] = (x / 0x100 % 256) as u8;
+        buf[at + 3] = (x % 256) as u8;
     }
 }
 
@@ -53,21 +54,19 @@ pub fn put_be64(buf: &mut [u8], at: usize, x: u64)
     ensures { λ _. ⌜ now (buf .exit) ≡ put at (be64Bytes x) (now (buf .entry)) ⌝ }
 {
     if at < buf.len() {
-        let high = x / 0x1_0000_0000;
-        let low = x % 0x1_0000_0000;
         if buf.len() - at < 8 {
-            put_be32(buf, at, high as u32);
-            put_be32(buf, at + 4, low as u32);
+            put_be32(buf, at, (x / 0x1_0000_0000) as u32);
+            put_be32(buf, at + 4, (x % 0x1_0000_0000) as u32);
             return;
         }
-        buf[at] = (high / 0x1_0000 / 256) as u8;
-        buf[at + 1] = (high / 0x1_0000 % 256) as u8;
-        buf[at + 2] = (high % 0x1_0000 / 256) as u8;
-        buf[at + 3] = (high % 0x1_0000 % 256) as u8;
-        buf[at + 4] = (low / 0x1_0000 / 256) as u8;
-        buf[at + 5] = (low / 0x1_0000 % 256) as u8;
-        buf[at + 6] = (low % 0x1_0000 / 256) as u8;
-        buf[at + 7] = (low % 0x1_0000 % 256) as u8;
+        buf[at] = (x / 0x100_0000_0000_0000) as u8;
+        buf[at + 1] = (x / 0x1_0000_0000_0000 % 256) as u8;
+        buf[at + 2] = (x / 0x100_0000_0000 % 256) as u8;
+        buf[at + 3] = (x / 0x1_0000_0000 % 256) as u8;
+        buf[at + 4] = (x / 0x100_0000 % 256) as u8;
+        buf[at + 5] = (x / 0x1_0000 % 256) as u8;
+        buf[at + 6] = (x / 0x100 % 256) as u8;
+        buf[at + 7] = (x % 256) as u8;
     }
 }
 
