@@ -10,7 +10,7 @@ use octets::write::put_be16;
 // is nothing to know. Numbers, as the slot table keeps them.
 #[repr(C)]
 pub struct UdpSum {
-    pub kind: u16,
+    pub kind: u64,
     pub ip: u16,
     pub udp: u16,
 }
