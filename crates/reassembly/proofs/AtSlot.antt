@@ -58,7 +58,15 @@ module _ (s : Slot) (i t : ℕ) (p : Part) (m o : List ℕ) where
     unfolding takeAt
     at-10 bad r q = left Refusal.BadPart r q (rw (enough, bad))
 
+    pub take-bad : fits p ≡ false → takeAt s i t p m o ≡ stays s i m 10
+    unfolding takeAt
+    take-bad bad = rw (enough, bad)
+
     module _ (good : fits p ≡ true) where
+      pub take-none : 8 ≤ i → takeAt s i t p m o ≡ stays s i m 12
+      unfolding takeAt
+      take-none h = rw (enough, good, le-ltb i 8 h)
+
       pub at-12 : 8 ≤ i → (r : InSlot) → r ≡ record { outcome = Outcome.Refused Refusal.NoSlot; slot = s } → Lands r i m m o o (takeAt s i t p m o)
       unfolding takeAt
       at-12 h r q = left Refusal.NoSlot r q (rw (enough, good, le-ltb i 8 h))

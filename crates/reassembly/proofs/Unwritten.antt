@@ -36,7 +36,7 @@ either : {A : Type 0} (P : A → Type 0) (b : Bool) (x y : A) → P x → P y �
 either P true x y p q = p
 either P false x y p q = q
 
-splice-back : (m : List ℕ) (i : ℕ) → splice m i (chunk i m) ≡ m
+pub splice-back : (m : List ℕ) (i : ℕ) → splice m i (chunk i m) ≡ m
 unfolding splice chunk
 splice-back m i = put-back 2048 (i * 2048) m
 

@@ -1,50 +1,43 @@
 -- The steps of a call, one after the other, are the slot table's `step`.
-use Prim.Native.Nat.{ℕ, _≤_, _<_}
+use Prim.Native.Nat.{ℕ, suc, _≤_, _<_}
 use native.Mathlib.Omega.{arith}
-use native.Mathlib.Nat.{min-le-right}
+use native.Mathlib.Nat.{le-of-suc-le-suc}
 use mathlib.Core.Path.{_≡_, refl, sym, ap, subst, _∙_}
 use mathlib.Core.Logic.{_⊎_, inl, inr, ⊎-elim}
 use mathlib.Core.Bool.{Bool, true, false, true≢false, _||_}
 use mathlib.Core.List.{List}
-use lib.ListN.{length, getD, set, length-take, length-replicate}
+use lib.ListN.{length, getD, set}
+use lib.Seq.{set-getD}
 use lib.Dec.{eqb, ltb, leb}
 use borrow.Author.Tests.{ltb-true, ltb-false, le-ltb, leb-true, leb-false, eqb-true, eqb-false, eq-eqb, ne-eqb}
 use Rattle.octets.specs.Read.{Answer, is, choose}
 use Rattle.octets.specs.Read as Read
 use Rattle.octets.proofs.Spans.{not-refused}
 use Rattle.reassembly.specs.Lists.{count, those}
-use Rattle.reassembly.specs.Slots.{owner, present, isKey, expired, expire, gatesOf, isGate}
-use Rattle.reassembly.specs.Parts.{Reply, refused, told, ofOutcome, outputAfter, fits, Put}
-use Rattle.reassembly.specs.Table.{State, Result, other, part, splice, withSlots, takeAt, step, lentCall, Lands, Gives, Aged}
+use Rattle.reassembly.specs.Slots.{owner, present, isKey, freeSlot, expire, gatesOf, isGate}
+use Rattle.reassembly.specs.Parts.{Part, Reply, refused, told, ofOutcome, outputAfter, fits, Put}
+use Rattle.reassembly.specs.Table.{State, Result, other, part, splice, withSlots, stays, takeAt, step, lentCall, Lands, Gives, Aged}
+use Rattle.words.specs.Words.{withSlot}
 use Rattle.reassembly.specs.declared.part.Outcome.{Outcome}
 use Rattle.reassembly.specs.declared.part.InSlot.{InSlot}
 use Rattle.reassembly.specs.declared.slot.Slot.{Slot}
 use Rattle.reassembly.specs.declared.slot.Source.{Source}
 use Rattle.reassembly.specs.declared.table.Table.{Table}
-use Rattle.reassembly.proofs.Tests.{by-test, not-true-false}
+use Rattle.reassembly.proofs.Tests.{by-test, by-order, not-true-false}
 use Rattle.reassembly.proofs.Lists.{firstAt-holds, firstAt-found, firstAt-most, count-at}
 use Rattle.reassembly.proofs.Answers.{enough-output, aged-is, aged-whole, aged-young, gates-of, gates-same, Leaves, leaves-7, leaves-8, leaves-other, leaves-10, leaves-offer, leaves-open, leaves-12}
-use Rattle.reassembly.proofs.AtSlot.{take-own, take-other}
+use Rattle.reassembly.proofs.AtSlot.{take-own, take-other, take-bad, take-none}
+use Rattle.reassembly.proofs.Unwritten.{splice-back}
 use Rattle.receiver.specs.Receive.{frameCall, callOf}
-use Rattle.receiver.specs.Carried.{bytesOf, partIn, callAs, carriedCall, zeros, Carries}
-use Rattle.receiver.specs.Steps.{judged, Timed, takenAs, isTaken, toldAs, atOnce, openSlot, newSlot, slotFor}
-use Rattle.receiver.specs.declared.What.{What}
-use Rattle.receiver.specs.declared.Carried.{Carried}
+use Rattle.receiver.specs.Steps.{judged, Timed, Told, called, ReceivesIn, openSlot, newSlot, slotFor, TakesIn}
 use Rattle.receiver.proofs.Names.{call-of, frame-part, frame-at}
 
 abbrev state : Table → List ℕ → State
 state tb m = record { table = tb; mem = m }
 
--- the table x with the slot s at i, and with the last time t
-abbrev pub withSlot : Table → ℕ → Slot → Table
-withSlot x i s = record { slots = set (x .slots) i s; last = x .last; gateways = x .gateways }
-
+-- the table x with the last time t
 abbrev pub withTime : Table → ℕ → Table
 withTime x t = record { slots = x .slots; last = t; gateways = x .gateways }
-
--- what the call on the frame s comes to
-abbrev pub called : Table → ℕ → List ℕ → List ℕ → List ℕ → List ℕ → Result
-called tb t s ctx m o = step (state tb m) (callOf m o (gatesOf tb) ctx t s)
 
 -- ---- the time
 same-number : (n k : ℕ) → _≡_ {A = Answer (Unit {0})} (Read.refused n) (Read.refused k) → n ≡ k
@@ -74,120 +67,102 @@ module _ (tb : Table) (t : ℕ) (m o : List ℕ) (e : is tt ≡ judged (tb .last
       (λ b. not-refused tt 8 (sym (rw (a, b) at e)))
       (λ b. (a, ltb-false t (tb .last) b)))
 
-  timed-by : (y : Table) → Aged tb y t → Timed tb (withTime y t) t m o
-  timed-by y G = record { aged = record { slots = G .slots; gates = G .gates; eight = G .eight }; last = refl; enough = taken-in .0; late = taken-in .1 }
+  pub room-for : 2047 ≤ length o
+  room-for = enough-output m o (taken-in .0)
 
-  -- old slots are freed where there are any
-  module _ (n : length (tb .slots) ≡ 8) (y : Table) where
-    pub timed-due : y ≡ withSlots tb t (expire t (tb .slots)) → Timed tb (withTime y t) t m o
-    timed-due q = timed-by y (aged-whole tb y t n q)
-
-    pub timed-young : leb 1 (count (expired t) (tb .slots)) ≡ false → y ≡ tb → Timed tb (withTime y t) t m o
-    timed-young k q = timed-by y (subst (λ z. Aged tb z t) (sym q) (aged-young tb t n (omega (arith, leb-false 1 (count (expired t) (tb .slots)) k))))
+  -- old slots are freed, and the time is taken
+  pub timed : length (tb .slots) ≡ 8 → (y : Table) → y ≡ withSlots tb t (expire t (tb .slots)) → Timed tb y t m o
+  unfolding withSlots
+  timed n y q = rw q record { aged = aged-whole tb _ t n refl; last = refl; enough = taken-in .0; late = taken-in .1 }
 
 -- ---- the slot
-slot-is : (x : Table) (c : Carried) (z : Bool) → eqb (openSlot x c) 8 ≡ z → choose z (newSlot x c) (openSlot x c) ≡ slotFor x c
+slot-is : (x : Table) (p : Part) (z : Bool) → eqb (openSlot x p) 8 ≡ z → choose z (newSlot x p) (openSlot x p) ≡ slotFor x p
 unfolding slotFor
-slot-is x c z q = sym (ap (λ y. choose y (newSlot x c) (openSlot x c)) q)
+slot-is x p z q = sym (ap (λ y. choose y (newSlot x p) (openSlot x p)) q)
 
 -- k is the slot that is found, and j the one that the part goes to
-module _ (x : Table) (c : Carried) (k j : ℕ) (f : k ≡ openSlot x c) where
-  pub by-opening : k ≡ 8 → j ≡ newSlot x c → j ≡ slotFor x c
-  by-opening h g = g ∙ slot-is x c true (eq-eqb (openSlot x c) 8 (sym f ∙ h))
+module _ (x : Table) (p : Part) (k j : ℕ) (f : k ≡ openSlot x p) where
+  pub by-opening : k ≡ 8 → j ≡ newSlot x p → j ≡ slotFor x p
+  by-opening h g = g ∙ slot-is x p true (eq-eqb (openSlot x p) 8 (sym f ∙ h))
 
-  pub by-key : (k ≡ 8 → ⊥) → j ≡ k → j ≡ slotFor x c
-  by-key h g = g ∙ f ∙ slot-is x c false (ne-eqb (openSlot x c) 8 (λ z. h (f ∙ z)))
+  pub by-key : (k ≡ 8 → ⊥) → j ≡ k → j ≡ slotFor x p
+  by-key h g = g ∙ f ∙ slot-is x p false (ne-eqb (openSlot x p) 8 (λ z. h (f ∙ z)))
 
-part-as : (w : What) (t : ℕ) (c : Carried) → takenAs w c ≡ true → (callAs w t c ≡ part t (partIn c)) × (fits (partIn c) ≡ true)
-part-as What.Part t c h = (refl, h)
-part-as What.Whole t c h = absurd (true≢false (sym h))
-part-as (What.Refused e) t c h = absurd (true≢false (sym h))
-
-other-as : (w : What) (t : ℕ) (c : Carried) (o : List ℕ) → ltb (length o) (length (bytesOf c)) ≡ false → takenAs w c ≡ false
-    → (callAs w t c ≡ other t (toldAs w c o)) ⊎ ((callAs w t c ≡ part t (partIn c)) × (fits (partIn c) ≡ false) × (toldAs w c o ≡ refused 10))
-other-as What.Part t c o r h = inr (refl, h, refl)
-other-as What.Whole t c o r h = inl (rw r refl)
-other-as (What.Refused e) t c o r h = inl refl
-
--- what is carried has at most 456 bytes
-carried-most : (gs : List Source) (ctx s : List ℕ) (c : Carried) → Carries c gs ctx s → length (bytesOf c) ≤ 456
-carried-most gs ctx s c C = by-test (leb (length (bytesOf c)) (length zeros))
-    (λ h. omega (arith, leb-true (length (bytesOf c)) (length zeros) h, length-replicate {A = ℕ} 456 0))
-    (λ h.
-    let q : c .bytes ≡ zeros = C .bytes ∙ rw h refl in
-    omega (arith, length-take (c .len) (c .bytes), min-le-right (c .len) (length (c .bytes)), ap length q, length-replicate {A = ℕ} 456 0))
-
--- ---- what c carries, the frame s, to the table x, which was tb and has taken the time t
-module _ (tb x : Table) (t : ℕ) (s ctx m o : List ℕ) (T : Timed tb x t m o) (c : Carried) (C : Carries c (those present (x .gateways)) ctx s) where
+-- ---- the frame s, to the table x, which was tb and has taken the time t
+module _ (tb x : Table) (t : ℕ) (s ctx m o : List ℕ) (T : Timed tb x t m o) where
   -- x as the laws of a call write it
   timed-table : x ≡ withTime x t
   timed-table = rw (← T .last)
 
-  call-is : lentCall m o (carriedCall t c) ≡ callOf m o (gatesOf tb) ctx t s
-  call-is = ap (lentCall m o) (C .call t ∙ ap (λ g. frameCall g ctx t s) (gates-same tb x t (T .aged))) ∙ call-of m o (gatesOf tb) ctx t s
+  call-is : lentCall m o (frameCall (gatesOf x) ctx t s) ≡ callOf m o (gatesOf tb) ctx t s
+  call-is = ap (λ g. lentCall m o (frameCall g ctx t s)) (gates-of x ∙ gates-same tb x t (T .aged)) ∙ call-of m o (gatesOf tb) ctx t s
 
-  -- a part is a gateway's
-  known : carriedCall t c ≡ part t (partIn c) → isGate (owner (c .key)) (those present (x .gateways)) ≡ true
-  known q = frame-part (those present (x .gateways)) ctx t s t (partIn c) (sym (C .call t) ∙ q) .gate
+  -- it brings the part p
+  module _ (p : Part) (F : frameCall (gatesOf x) ctx t s ≡ part t p) where
+    as-part : (a : Reply (List ℕ)) (x′ : Table) (m′ : List ℕ) → Leaves (step (state tb m) (lentCall m o (part t p))) a x′ m′ → Leaves (called tb t s ctx m o) a x′ m′
+    as-part a x′ m′ L = rw (← call-is, F) L
 
-  module _ (taken : isTaken c ≡ true) where
-    is-part : (carriedCall t c ≡ part t (partIn c)) × (fits (partIn c) ≡ true)
-    unfolding isTaken
-    is-part = part-as (c .what) t c taken
+    -- which is a gateway's
+    known : isGate (owner (p .key)) (those present (x .gateways)) ≡ true
+    known = rw (gates-of x) at (frame-part (gatesOf x) ctx t s t p F .gate)
 
-    as-part : (a : Reply (List ℕ)) (x′ : Table) (m′ : List ℕ) → Leaves (step (state tb m) (lentCall m o (part t (partIn c)))) a x′ m′ → Leaves (called tb t s ctx m o) a x′ m′
-    as-part a x′ m′ L = rw (← call-is, is-part .0) L
+    module _ (i : ℕ) (e : i ≡ slotFor x p) where
+      abbrev was : Slot
+      was = getD (x .slots) i freeSlot
 
-    module _ (i : ℕ) (e : i ≡ slotFor x c) where
-      opened-at : eqb (openSlot x c) 8 ≡ true → newSlot x c ≡ i
-      opened-at h = slot-is x c true h ∙ sym e
+      opened-at : eqb (openSlot x p) 8 ≡ true → newSlot x p ≡ i
+      opened-at h = slot-is x p true h ∙ sym e
 
-      found-at : eqb (openSlot x c) 8 ≡ false → openSlot x c ≡ i
-      found-at h = slot-is x c false h ∙ sym e
+      found-at : eqb (openSlot x p) 8 ≡ false → openSlot x p ≡ i
+      found-at h = slot-is x p false h ∙ sym e
 
-      pub leaves-slot : i < 8 → (d : Slot) → let q = takeAt (getD (x .slots) i d) i t (partIn c) m o in
-          Leaves (called tb t s ctx m o) (q .reply) (withSlot x i (q .slot)) (splice m i (q .bytes))
-      leaves-slot h d =
-          let G = T .aged in
-          let good = is-part .1 in
-          let q = takeAt (getD (x .slots) i d) i t (partIn c) m o in
-          let L : Leaves (step (state tb m) (lentCall m o (part t (partIn c)))) (q .reply) (record { slots = set (x .slots) i (q .slot); last = t; gateways = x .gateways }) (splice m i (q .bytes)) =
-          by-test (eqb (openSlot x c) 8)
-          (λ y.
-          let none : 8 ≤ openSlot x c = omega (arith, eqb-true (openSlot x c) 8 y) in
-          let free : isKey (c .key) (getD (x .slots) i d) ≡ false = not-true-false (isKey (c .key) (getD (x .slots) i d)) (λ k. absurd (omega (arith, none, G .eight, firstAt-found (isKey (c .key)) (x .slots) (count-at (isKey (c .key)) (x .slots) i d (omega (arith, h, G .eight)) k)))) in
-          leaves-open tb m o t (partIn c) (T .enough) (T .late) x G (known (is-part .0)) good (openSlot x c) refl none i (rw (gates-of x) at (opened-at y)) h q (take-other (getD (x .slots) i d) i t (partIn c) m o (T .enough) good h free))
-          (λ y.
-          let f = found-at y in
-          let k : isKey (c .key) (getD (x .slots) i d) ≡ true = rw f at (firstAt-holds (isKey (c .key)) (x .slots) d (omega (arith, h, f, G .eight))) in
-          leaves-offer tb m o t (partIn c) (T .enough) (T .late) x G (known (is-part .0)) good i f h d q (take-own (getD (x .slots) i d) i t (partIn c) m o (T .enough) good h k)) in
-          rw (T .last) (as-part (q .reply) _ _ L)
+      -- what the call comes to, and what the slot does
+      abbrev Ends : Put → Type 0
+      Ends q = Leaves (step (state tb m) (lentCall m o (part t p))) (q .reply) (record { slots = set (x .slots) i (q .slot); last = t; gateways = x .gateways }) (splice m i (q .bytes))
 
-      pub leaves-none : 8 ≤ i → Leaves (called tb t s ctx m o) (refused 12) x m
-      leaves-none h =
-          let G = T .aged in
-          by-test (eqb (openSlot x c) 8)
-          (λ y.
-          let none : 8 ≤ openSlot x c = omega (arith, eqb-true (openSlot x c) 8 y) in
-          rw timed-table (as-part (refused 12) _ m (leaves-12 tb m o t (partIn c) (T .enough) (T .late) x G (known (is-part .0)) (is-part .1) (openSlot x c) refl none i (rw (gates-of x) at (opened-at y)) h)))
-          (λ y. absurd (eqb-false (openSlot x c) 8 y (omega (arith, h, found-at y, G .eight, firstAt-most (isKey (c .key)) (x .slots)))))
+      -- refused, the slot as it was
+      ends-stays : (n : ℕ) → Leaves (step (state tb m) (lentCall m o (part t p))) (refused n) (record { slots = x .slots; last = t; gateways = x .gateways }) m → Ends (stays was i m n)
+      unfolding stays
+      ends-stays n L = rw (set-getD (x .slots) i freeSlot, splice-back m i) L
 
-  -- anything else
-  bad-part : carriedCall t c ≡ part t (partIn c) → fits (partIn c) ≡ false → Leaves (step (state tb m) (lentCall m o (carriedCall t c))) (refused 10) x m
-  bad-part q bad = rw (timed-table, q) (leaves-10 tb m o t (partIn c) (T .enough) (T .late) x (T .aged) (known q) bad)
+      module _ (good : fits p ≡ true) where
+        ends-slot : i < 8 → Ends (takeAt was i t p m o)
+        ends-slot h =
+            let G = T .aged in
+            let q = takeAt was i t p m o in
+            by-test (eqb (openSlot x p) 8)
+            (λ y.
+            let none : 8 ≤ openSlot x p = omega (arith, eqb-true (openSlot x p) 8 y) in
+            let free : isKey (p .key) was ≡ false = not-true-false (isKey (p .key) was) (λ k. absurd (omega (arith, none, G .eight, firstAt-found (isKey (p .key)) (x .slots) (count-at (isKey (p .key)) (x .slots) i freeSlot (omega (arith, h, G .eight)) k)))) in
+            leaves-open tb m o t p (T .enough) (T .late) x G known good (openSlot x p) refl none i (rw (gates-of x) at (opened-at y)) h q (take-other was i t p m o (T .enough) good h free))
+            (λ y.
+            let f = found-at y in
+            let k : isKey (p .key) was ≡ true = rw f at (firstAt-holds (isKey (p .key)) (x .slots) freeSlot (omega (arith, h, f, G .eight))) in
+            leaves-offer tb m o t p (T .enough) (T .late) x G known good i f h freeSlot q (take-own was i t p m o (T .enough) good h k))
 
-  no-part : (a : Reply (List ℕ)) → carriedCall t c ≡ other t a → Leaves (step (state tb m) (lentCall m o (carriedCall t c))) a x m
-  no-part a q = rw q (leaves-other tb m o t (T .enough) (T .late) x (timed-table ∙ aged-is tb x t (T .aged)) a)
+        ends-none : 8 ≤ i → Ends (takeAt was i t p m o)
+        ends-none h =
+            let G = T .aged in
+            rw (take-none was i t p m o (T .enough) good h) (ends-stays 12 (by-test (eqb (openSlot x p) 8)
+            (λ y.
+            let none : 8 ≤ openSlot x p = omega (arith, eqb-true (openSlot x p) 8 y) in
+            leaves-12 tb m o t p (T .enough) (T .late) x G known good (openSlot x p) refl none i (rw (gates-of x) at (opened-at y)) h)
+            (λ y. absurd (eqb-false (openSlot x p) 8 y (omega (arith, h, found-at y, G .eight, firstAt-most (isKey (p .key)) (x .slots)))))))
 
-  room : ltb (length o) (length (bytesOf c)) ≡ false
-  room = le-ltb (length o) (length (bytesOf c)) (omega (arith, enough-output m o (T .enough), carried-most (those present (x .gateways)) ctx s c C))
+      ends-bad : fits p ≡ false → Ends (takeAt was i t p m o)
+      ends-bad bad = rw (take-bad was i t p m o (T .enough) bad) (ends-stays 10 (leaves-10 tb m o t p (T .enough) (T .late) x (T .aged) known bad))
 
-  pub leaves-once : isTaken c ≡ false → Leaves (called tb t s ctx m o) (atOnce c o) x m
-  unfolding isTaken
-  leaves-once h = rw (← call-is) (⊎-elim (λ q. no-part (atOnce c o) q) (λ q. rw (q .2) (bad-part (q .0) (q .1))) (other-as (c .what) t c o room h))
+      pub leaves-part : let q = takeAt was i t p m o in Leaves (called tb t s ctx m o) (q .reply) (withSlot x i (q .slot)) (splice m i (q .bytes))
+      unfolding withSlot
+      leaves-part =
+          let L : Ends (takeAt was i t p m o) = by-test (fits p) (λ good. by-order (suc i) 8 (λ h. ends-slot good h) (λ h. ends-none good (le-of-suc-le-suc h))) (λ bad. ends-bad bad) in
+          rw (T .last) (as-part _ _ _ L)
 
--- ---- by value
--- what a call leaves, as an answer
+  -- it brings no part
+  pub leaves-answer : (a : Reply (List ℕ)) → frameCall (gatesOf x) ctx t s ≡ other t a → Leaves (called tb t s ctx m o) a x m
+  leaves-answer a F = rw (← call-is, F) (leaves-other tb m o t (T .enough) (T .late) x (timed-table ∙ aged-is tb x t (T .aged)) a)
+
+-- ---- what a call leaves, as an answer
 pub gives-of : (q : Result) (a : Reply (List ℕ)) (x : Table) (m o o′ : List ℕ) → Leaves q a x m → (r : Outcome) → ofOutcome r ≡ told a → o′ ≡ outputAfter a o → Gives (record { answer = r; table = x }) m o o′ q
 gives-of q a x m o o′ L r e f = record {
   answer = e ∙ ap told (sym (L .reply));
@@ -199,3 +174,11 @@ gives-of q a x m o o′ L r e f = record {
 pub gives-slot : (q : Result) (p : Put) (x : Table) (i : ℕ) (m o : List ℕ) → Leaves q (p .reply) (withSlot x i (p .slot)) (splice m i (p .bytes)) → (r : InSlot) (m′ o′ : List ℕ) → Lands r i m m′ o o′ p
     → Gives (record { answer = r .outcome; table = withSlot x i (r .slot) }) m′ o o′ q
 gives-slot q p x i m o L r m′ o′ D = rw (D .slot, D .memory) (gives-of q (p .reply) _ _ o o′ L (r .outcome) (D .answer) (D .output))
+
+-- ---- the part p, taken at slot i, whose record is z; the frame s, answered at once
+pub takes : (x : Table) (t : ℕ) (p : Part) (i : ℕ) → i ≡ slotFor x p → (m o : List ℕ) (z : Slot) → z ≡ getD (x .slots) i freeSlot → (r : InSlot) (m′ o′ : List ℕ) → Lands r i m m′ o o′ (takeAt z i t p m o)
+    → (y : Table) → y ≡ withSlot x i (r .slot) → TakesIn x t p (r .outcome) y m m′ o o′
+takes x t p i e m o z a r m′ o′ D y b s ctx F tb T = rw b (gives-slot _ _ x i m o (leaves-part tb x t s ctx m o T p F i e) r m′ o′ (rw a at D))
+
+pub answers : (x : Table) (t : ℕ) (s ctx m o : List ℕ) (a : Reply (List ℕ)) → frameCall (gatesOf x) ctx t s ≡ other t a → (r : Outcome) (o′ : List ℕ) → Told r o o′ a → ReceivesIn x t s ctx r x m m o o′
+answers x t s ctx m o a F r o′ A tb T = gives-of _ a x m o o′ (leaves-answer tb x t s ctx m o T a F) r (A .answer) (A .output)

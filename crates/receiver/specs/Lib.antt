@@ -1,4 +1,3 @@
 pub mod Receive
-pub mod Carried
 pub mod Steps
 pub mod Names

@@ -2,7 +2,7 @@
 -- goes to a slot. proofs/Turns.antt shows that one after the other they are reassembly's `step`.
 use Prim.Native.Nat.{ℕ, _≤_}
 use mathlib.Core.Path.{_≡_}
-use mathlib.Core.Bool.{Bool, false, _||_}
+use mathlib.Core.Bool.{false, _||_}
 use mathlib.Core.List.{List}
 use lib.ListN.{length}
 use lib.Dec.{eqb, ltb}
@@ -11,14 +11,12 @@ use Rattle.octets.specs.Read as Read
 use Rattle.octets.specs.Refusal.{numberOf}
 use Rattle.reassembly.specs.Lists.{firstAt}
 use Rattle.reassembly.specs.Slots.{owner, isKey, gatesOf, opening}
-use Rattle.reassembly.specs.Parts.{Reply, out, refused, told, ofOutcome, outputAfter, fits}
-use Rattle.reassembly.specs.Table.{Aged}
+use Rattle.reassembly.specs.Parts.{Part, Reply, told, ofOutcome, outputAfter}
+use Rattle.reassembly.specs.Table.{State, Result, part, step, Aged, Gives}
 use Rattle.reassembly.specs.declared.part.Outcome.{Outcome}
 use Rattle.reassembly.specs.declared.table.Table.{Table}
-use Rattle.receiver.specs.Carried.{bytesOf, partIn}
-use Rattle.receiver.specs.declared.What.{What}
-use Rattle.receiver.specs.declared.Carried.{Carried}
-use Rattle.receiver.specs.declared.call.Judged.{Judged}
+use Rattle.receiver.specs.Receive.{frameCall, callOf}
+use Rattle.receiver.specs.declared.Judged.{Judged}
 
 -- ---- the time
 abbrev pub ofJudged : Judged → Answer (Unit {0})
@@ -36,36 +34,32 @@ pub record Timed (tb x : Table) (t : ℕ) (m o : List ℕ) : Type 0 where
   pub enough : (ltb (length m) 16384 || ltb (length o) 2047) ≡ false
   pub late : tb .last ≤ t
 
--- ---- the frame: whether it carries a part that its datagram can have
-abbrev pub takenAs : What → Carried → Bool
-takenAs What.Part c = fits (partIn c)
-takenAs What.Whole c = false
-takenAs (What.Refused e) c = false
-
-unfoldable pub isTaken : Carried → Bool
-isTaken c = takenAs (c .what) c
-
--- the answer to anything else, with the output o: a datagram that it has no room for is refused, 7
-abbrev pub toldAs : What → Carried → List ℕ → Reply (List ℕ)
-toldAs What.Part c o = refused 10
-toldAs What.Whole c o = choose (ltb (length o) (length (bytesOf c))) (refused 7) (out (bytesOf c))
-toldAs (What.Refused e) c o = refused (numberOf e)
-
-abbrev pub atOnce : Carried → List ℕ → Reply (List ℕ)
-atOnce c o = toldAs (c .what) c o
-
+-- ---- the frame
 -- the answer r and the output o, o₀ before, are as a says
 pub record Told (r : Outcome) (o₀ o : List ℕ) (a : Reply (List ℕ)) : Type 0 where
   pub answer : ofOutcome r ≡ told a
   pub output : o ≡ outputAfter a o₀
 
--- ---- the part: the slot that is open under its key, or 8; the one that it may open, or 8
-abbrev pub openSlot : Table → Carried → ℕ
-openSlot x c = firstAt (isKey (c .key)) (x .slots)
+-- what the call on the frame s comes to
+abbrev pub called : Table → ℕ → List ℕ → List ℕ → List ℕ → List ℕ → Result
+called tb t s ctx m o = step (record { table = tb; mem = m }) (callOf m o (gatesOf tb) ctx t s)
 
-abbrev pub newSlot : Table → Carried → ℕ
-newSlot x c = opening (owner (c .key)) (gatesOf x) (x .slots)
+-- a frame s to the table x, which has taken the time t: of every table tb that x was, the answer r, and afterwards the table x′, the memory
+-- m′ and the output o′, are what `step` says
+abbrev pub ReceivesIn : Table → ℕ → List ℕ → List ℕ → Outcome → Table → List ℕ → List ℕ → List ℕ → List ℕ → Type 0
+ReceivesIn x t s ctx r x′ m m′ o o′ = (tb : Table) → Timed tb x t m o → Gives (record { answer = r; table = x′ }) m′ o o′ (called tb t s ctx m o)
+
+-- ---- the part: the slot that is open under its key, or 8; the one that it may open, or 8
+abbrev pub openSlot : Table → Part → ℕ
+openSlot x p = firstAt (isKey (p .key)) (x .slots)
+
+abbrev pub newSlot : Table → Part → ℕ
+newSlot x p = opening (owner (p .key)) (gatesOf x) (x .slots)
 
 -- the one that it goes to, or 8
-unfoldable pub slotFor : Table → Carried → ℕ
-slotFor x c = choose (eqb (openSlot x c) 8) (newSlot x c) (openSlot x c)
+unfoldable pub slotFor : Table → Part → ℕ
+slotFor x p = choose (eqb (openSlot x p) 8) (newSlot x p) (openSlot x p)
+
+-- the part p to the table x: of every frame s that brings it, as `ReceivesIn` says
+abbrev pub TakesIn : Table → ℕ → Part → Outcome → Table → List ℕ → List ℕ → List ℕ → List ℕ → Type 0
+TakesIn x t p r x′ m m′ o o′ = (s ctx : List ℕ) → frameCall (gatesOf x) ctx t s ≡ part t p → ReceivesIn x t s ctx r x′ m m′ o o′

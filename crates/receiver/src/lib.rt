@@ -1,26 +1,20 @@
-// The receiver: one call takes a time, a frame, contexts, the lent memory and an output.
+// The receiver: one call takes a time, a frame, contexts, the lent memory and an output, and a table that its caller
+// keeps, as the 149 numbers of crate `words`.
 //
 // The answer, the table, the lent memory and the output of `receive` are, on every input, those of the slot table's
-// `step` on what specs/Receive.antt says the frame is. No refusal but 17 writes a lent byte. `Carried` is what a frame
-// carries to a table, in full and by value (specs/Carried.antt).
-//
-// - `call`: the steps of a call. `receive` takes them on a table by value, the library on one that its caller keeps.
-pub mod call;
-
+// `step` on what specs/Receive.antt says the frame is. No refusal but 17 writes a lent byte. The steps of a call stand
+// here in the order of the scope document, "Expansion and the slot table": 7 and 8 are judged, the time is taken, the
+// sender is looked for among the gateways, the payload is read, and a part goes to a slot.
 ghost use mathlib.Core.Path.{_≡_};
-ghost use Prim.Native.Nat.{_≤_, min};
+ghost use Prim.Native.Nat.{_≤_};
+ghost use lib.ListN.{length};
 ghost use Rattle.incoming.specs.Incoming.{ofArrival};
-ghost use Rattle.reassembly.specs.Lists.{those};
-ghost use Rattle.reassembly.specs.Slots.{present, gatesOf};
+ghost use Rattle.reassembly.specs.Slots.{gatesOf};
+ghost use Rattle.reassembly.specs.Parts.{withBytes};
 ghost use Rattle.reassembly.specs.Table.{step, Gives};
-ghost use Rattle.receiver.specs.Receive.{senderOf, keyOf, admitted, callOf};
-ghost use Rattle.receiver.specs.Carried.{Carries, nothing, whole, part};
-use call::Judged;
-use call::find;
-use call::is_taken;
-use call::judge;
-use call::put_at;
-use call::to_open;
+ghost use Rattle.words.specs.Words.{tableIn};
+ghost use Rattle.receiver.specs.Receive.{senderOf, keyOf, admitted, tested, callOf};
+ghost use Rattle.receiver.specs.Steps.{ofJudged, judged, Told, ReceivesIn, TakesIn};
 use expand::checksum::UdpSum;
 use expand::checksum::is_right;
 use expand::copy::put_slice;
@@ -31,30 +25,33 @@ use octets::refusal::Refusal;
 use reassembly::Key;
 use reassembly::Node;
 use reassembly::Outcome;
-use reassembly::Received;
 use reassembly::Source;
-use reassembly::Table;
-use reassembly::is_gateway;
+use reassembly::Target;
+use reassembly::is_short;
+use reassembly::part::Part;
+use reassembly::take_at;
 use sixlowpan::frag::Units;
 
-pub enum What {
-    Part,
-    Whole,
+// The bytes of the longest expansion, 455, and one more.
+const SCRATCH: usize = 456;
+
+// Whether a call is taken, before its frame is looked at.
+enum Judged {
+    Taken,
     Refused(Refusal),
 }
 
-// The bytes of the longest expansion, 455, and one more.
-pub const SCRATCH: usize = 456;
-
-// What a frame carries: a whole datagram or a part of one, the first `len` of `bytes`, compressed headers in full; or
-// a refusal. `key`, `offset` and `sum` are a part's.
-pub struct Carried {
-    pub what: What,
-    pub key: Key,
-    pub offset: Units,
-    pub sum: UdpSum,
-    pub len: usize,
-    pub bytes: [u8; SCRATCH],
+// Refusals 7 and 8, which take no time: `last` is the table's last one.
+fn judge(last: u64, time: u64, mem: usize, out: usize) -> Judged
+    ensures { λ r. ⌜ ofJudged r ≡ judged last time mem out ⌝ }
+{
+    if is_short(mem, out) {
+        return Judged::Refused(Refusal::NoRoom);
+    }
+    if time < last {
+        return Judged::Refused(Refusal::EarlierTime);
+    }
+    Judged::Taken
 }
 
 fn sender_of(a: Arrival) -> Source
@@ -65,14 +62,14 @@ fn sender_of(a: Arrival) -> Source
     Source::of(addr, pan)
 }
 
-// Who sends a frame to whom, where the sender is a gateway and the destination is present.
-fn admit(gateways: [Source; 4], frame: &[u8]) -> ArrivalAnswer
-    ensures { λ r. ⌜ ofArrival r ≡ admitted (those present gateways) (now (frame .entry)) ⌝ }
+// Who sends a frame to whom, where the sender is a gateway (9) and the destination is present (6).
+fn admit(t: &[u64; 149], frame: &[u8]) -> ArrivalAnswer
+    ensures { λ r. ⌜ ofArrival r ≡ admitted (gatesOf (tableIn (now (t .entry)))) (now (frame .entry)) ⌝ }
 {
     match Arrival::read(frame) {
         ArrivalAnswer::Is(a) => {
             let dst = a.dst;
-            if !is_gateway(gateways, sender_of(a)) {
+            if !words::is_gateway(t, sender_of(a)) {
                 return ArrivalAnswer::Refused(Refusal::NotGateway);
             }
             let to = Node::of(dst);
@@ -99,139 +96,115 @@ fn key_of(a: Arrival, size: u16, tag: u16) -> Key
     }
 }
 
-impl Carried {
-    fn refused(e: Refusal, bytes: [u8; SCRATCH]) -> Carried
-        ensures { λ r. ⌜ r ≡ nothing e bytes ⌝ }
-    {
-        let key = Key::none();
-        Carried {
-            what: What::Refused(e),
-            key,
-            offset: Units(0),
-            sum: UdpSum::NONE,
-            len: 0,
-            bytes,
-        }
+// A datagram that came whole: to the output's start, but not where a checksum that it carries does not hold, 17.
+fn hand_over(datagram: &[u8], sum: UdpSum, out: &mut [u8]) -> Outcome
+    requires { ⌜ length (now datagram) ≤ length (now out) ⌝ }
+    ensures { λ r. ⌜ Told r (now (out .entry)) (now (out .exit)) (tested sum (now (datagram .entry))) ⌝ }
+{
+    let n = datagram.len();
+    if is_right(datagram, n, sum) {
+        put_slice(out, 0, datagram, 0, n);
+        return Outcome::Out(n);
     }
+    Outcome::Refused(Refusal::BadChecksum)
+}
 
-    fn whole(len: usize, bytes: [u8; SCRATCH]) -> Carried
-        ensures { λ r. ⌜ r ≡ whole len bytes ⌝ }
-    {
-        let key = Key::none();
-        Carried {
-            what: What::Whole,
-            key,
-            offset: Units(0),
-            sum: UdpSum::NONE,
-            len,
-            bytes,
-        }
+// A part, to a table that has taken the time: to the slot that is open under its key, else to one that it may open.
+// `take_at` refuses it where it is no part of its datagram, 10, and where there is no slot for it, 12.
+fn take(
+    t: &mut [u64; 149],
+    time: u64,
+    part: Part,
+    bytes: &[u8],
+    mem: &mut [u8],
+    out: &mut [u8],
+) -> Outcome
+    ensures { λ r. ⌜ TakesIn (tableIn (now (t .entry))) time (withBytes part (now (bytes .entry))) r
+        (tableIn (now (t .exit))) (now (mem .entry)) (now (mem .exit)) (now (out .entry)) (now (out .exit)) ⌝ }
+{
+    let key = part.key;
+    let mut index = words::find(t, key);
+    if index == 8 {
+        index = words::to_open(t, key.src);
     }
+    let slot = words::slot_at(t, index);
+    let d = take_at(Target { slot, index, time }, part, bytes, mem, out);
+    let after = d.slot;
+    words::put_slot(t, index, after);
+    d.outcome
+}
 
-    fn part(key: Key, offset: Units, sum: UdpSum, len: usize, bytes: [u8; SCRATCH]) -> Carried
-        ensures { λ r. ⌜ r ≡ part key offset sum len bytes ⌝ }
-    {
-        Carried {
-            what: What::Part,
-            key,
-            offset,
-            sum,
-            len,
-            bytes,
-        }
-    }
-
-    // What a frame carries to a table of these gateways.
-    pub fn read(gateways: [Source; 4], frame: &[u8], contexts: &[u8]) -> Carried
-        ensures { λ r. ⌜ Carries r (those present gateways) (now (contexts .entry)) (now (frame .entry)) ⌝ }
-    {
-        let mut bytes = [0u8; SCRATCH];
-        match admit(gateways, frame) {
-            ArrivalAnswer::Is(a) => match Payload::read(frame, a, contexts, &mut bytes) {
-                Payload::Whole { len, sum } => {
-                    if is_right(&bytes, len, sum) {
-                        return Carried::whole(len, bytes);
-                    }
-                    Carried::refused(Refusal::BadChecksum, [0u8; SCRATCH])
-                }
+// A frame, to a table that has taken the time.
+fn receive_timed(
+    t: &mut [u64; 149],
+    time: u64,
+    frame: &[u8],
+    contexts: &[u8],
+    mem: &mut [u8],
+    out: &mut [u8],
+) -> Outcome
+    requires { ⌜ 2047 ≤ length (now out) ⌝ }
+    ensures { λ r. ⌜ ReceivesIn (tableIn (now (t .entry))) time (now (frame .entry)) (now (contexts .entry)) r
+        (tableIn (now (t .exit))) (now (mem .entry)) (now (mem .exit)) (now (out .entry)) (now (out .exit)) ⌝ }
+{
+    match admit(t, frame) {
+        ArrivalAnswer::Is(a) => {
+            let mut scratch = [0u8; SCRATCH];
+            match Payload::read(frame, a, contexts, &mut scratch) {
+                Payload::Whole { len, sum } => hand_over(&scratch[0..len], sum, out),
                 Payload::First {
                     size,
                     tag,
                     len,
                     sum,
-                } => Carried::part(key_of(a, size, tag), Units(0), sum, len, bytes),
+                } => {
+                    let key = key_of(a, size, tag);
+                    let offset = Units(0);
+                    take(
+                        t,
+                        time,
+                        Part { key, offset, sum },
+                        &scratch[0..len],
+                        mem,
+                        out,
+                    )
+                }
                 Payload::Later {
                     size,
                     tag,
                     offset,
                     from,
                 } => {
-                    let n = frame.len() - from;
-                    put_slice(&mut bytes, 0, frame, from, n);
-                    Carried::part(key_of(a, size, tag), offset, UdpSum::NONE, n, bytes)
+                    let key = key_of(a, size, tag);
+                    let sum = UdpSum::NONE;
+                    take(t, time, Part { key, offset, sum }, &frame[from..], mem, out)
                 }
-                Payload::Refused(e) => Carried::refused(e, bytes),
-            },
-            ArrivalAnswer::Refused(e) => Carried::refused(e, bytes),
+                Payload::Refused(e) => Outcome::Refused(e),
+            }
         }
-    }
-
-    // How many of the bytes are the datagram's or the part's.
-    pub fn size(self) -> usize
-        ensures { λ r. ⌜ (r ≡ min (self .len) 456) × (r ≤ 456) ⌝ }
-    {
-        if self.len < SCRATCH {
-            self.len
-        } else {
-            SCRATCH
-        }
+        ArrivalAnswer::Refused(e) => Outcome::Refused(e),
     }
 }
 
 // A frame that comes at a time.
 pub fn receive(
-    mut table: Table,
+    t: &mut [u64; 149],
     time: u64,
     frame: &[u8],
     contexts: &[u8],
     mem: &mut [u8],
     out: &mut [u8],
-) -> Received
-    ensures { λ r. ⌜ Gives r (now (mem .exit)) (now (out .entry)) (now (out .exit))
-        (step (record { table = table; mem = now (mem .entry) })
-        (callOf (now (mem .entry)) (now (out .entry)) (gatesOf table) (now (contexts .entry)) time
+) -> Outcome
+    ensures { λ r. ⌜ Gives (record { answer = r; table = tableIn (now (t .exit)) }) (now (mem .exit)) (now (out .entry))
+        (now (out .exit)) (step (record { table = tableIn (now (t .entry)); mem = now (mem .entry) })
+        (callOf (now (mem .entry)) (now (out .entry)) (gatesOf (tableIn (now (t .entry)))) (now (contexts .entry)) time
         (now (frame .entry)))) ⌝ }
 {
-    match judge(table.last, time, mem.len(), out.len()) {
+    match judge(words::last(t), time, mem.len(), out.len()) {
         Judged::Taken => {
-            if table.is_due(time) {
-                table = table.aged(time);
-            }
-            table.last = time;
-            let gateways = table.gateways;
-            let c = Carried::read(gateways, frame, contexts);
-            if is_taken(c) {
-                let mut i = find(table, c);
-                if i == 8 {
-                    i = to_open(table, c);
-                }
-                if i < 8 {
-                    let s = table.slots[i];
-                    let d = put_at(s, i, time, c, mem, out);
-                    let answer = d.outcome;
-                    let slot = d.slot;
-                    table.slots[i] = slot;
-                    return Received { answer, table };
-                }
-                let answer = Outcome::Refused(Refusal::NoSlot);
-                return Received { answer, table };
-            }
-            let answer = call::answer(c, out);
-            Received { answer, table }
+            words::age(t, time);
+            receive_timed(t, time, frame, contexts, mem, out)
         }
-        Judged::Refused(e) => {
-            let answer = Outcome::Refused(e);
-            Received { answer, table }
-        }
+        Judged::Refused(e) => Outcome::Refused(e),
     }
 }
