@@ -20,12 +20,11 @@ use Rattle.capture.proofs.Unique.{told-good, told-bad}
 use Rattle.reassembly.specs.Lists.{count}
 use Rattle.reassembly.specs.Slots.{gatesOf, sameNode, sameSource, addressed, present}
 use Rattle.reassembly.specs.Parts.{ofOutcome, told, outputAfter}
-use Rattle.reassembly.specs.Table.{step, Gives}
+use Rattle.reassembly.specs.Table.{Received, step, Gives}
 use Rattle.reassembly.specs.Fresh.{fresh, sources, unfit, refusedList, Begins}
 use Rattle.reassembly.proofs.Fresh.{sources-are, when-fit}
 use Rattle.reassembly.specs.declared.table.Listed.{Listed}
 use Rattle.reassembly.specs.declared.table.Table.{Table}
-use Rattle.reassembly.specs.declared.table.Received.{Received}
 use Rattle.receiver.specs.Receive.{callOf}
 use Rattle.listen.specs.Lines.{frameLine, badLine, Page, putLine, putLines}
 use Rattle.listen.specs.Heard.{Listener, Told, next, received, afterFrame, saidOf, afterFrames, saidOfAll, blockOn, hearBlock, gateways, starting, Hears}

@@ -11,10 +11,9 @@ use Rattle.octets.specs.Refusal.{numberOf}
 use Rattle.octets.specs.declared.refusal.Refusal.{Refusal}
 use Rattle.reassembly.specs.Slots.{gatesOf}
 use Rattle.reassembly.specs.Parts.{Part, Reply, kept, out, refused, told, ofOutcome, outputAfter}
-use Rattle.reassembly.specs.Table.{Call, part, State, step, Gives}
+use Rattle.reassembly.specs.Table.{Received, Call, part, State, step, Gives}
 use Rattle.reassembly.specs.declared.part.Outcome.{Outcome}
 use Rattle.reassembly.specs.declared.table.Table.{Table}
-use Rattle.reassembly.specs.declared.table.Received.{Received}
 use Rattle.reassembly.proofs.Promises.{outcome-one}
 use Rattle.reassembly.proofs.Unwritten.{refused-unwritten}
 use Rattle.promises.proofs.Writes.{Writes, step-writes, Inside, writes-inside, writes-nothing, Repeated, repeat-unwritten}

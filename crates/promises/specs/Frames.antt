@@ -7,12 +7,11 @@ use lib.ListN.{length, drop}
 use Rattle.octets.specs.Read.{is}
 use Rattle.reassembly.specs.Slots.{gatesOf}
 use Rattle.reassembly.specs.Parts.{Part}
-use Rattle.reassembly.specs.Table.{Call, part, State, step, Gives, takenSince}
+use Rattle.reassembly.specs.Table.{Received, Call, part, State, step, Gives, takenSince}
 use Rattle.reassembly.specs.Fresh.{Gateways, begun}
 use Rattle.reassembly.specs.declared.slot.Source.{Source}
 use Rattle.reassembly.specs.declared.slot.Key.{Key}
 use Rattle.reassembly.specs.declared.part.Outcome.{Outcome}
-use Rattle.reassembly.specs.declared.table.Received.{Received}
 use Rattle.receiver.specs.Receive.{callOf}
 use Rattle.receiver.specs.Names.{named}
 use Rattle.reassembly.specs.Cover.{In, Covers, MadeOf}

@@ -16,7 +16,7 @@ use Rattle.octets.specs.declared.refusal.Refusal.{Refusal}
 use Rattle.octets.proofs.Spans.{not-refused}
 use Rattle.reassembly.specs.Lists.{bit, count, firstAt, those}
 use Rattle.reassembly.specs.Slots.{noSource, sameSource, present, freeSlot}
-use Rattle.reassembly.specs.Fresh.{ofListed, gateOf, seats, fresh, sources, unfit, refusedList, listed, made, Begins, Gateways}
+use Rattle.reassembly.specs.Fresh.{ofListed, gateOf, seats, fresh, sources, unfit, refusedList, listed, made, Sits, Begins, Gateways}
 use Rattle.reassembly.specs.declared.slot.Source.{Source}
 use Rattle.reassembly.specs.declared.table.Table.{Table}
 use Rattle.reassembly.specs.declared.table.Listed.{Listed}
@@ -53,25 +53,25 @@ pub take-seats : (n : ℕ) (l : List Gateway) → n ≤ length l → take n (sea
 unfolding seats
 take-seats n l h = take-at (sources n l) (replicate (4 - length (sources n l)) noSource) n (length-sources n l h)
 
--- ---- what `Table::new` answers
+-- ---- what `seat` answers
 
 module _ (n : ℕ) (l : List Gateway) where
-  begins-refused : refusedList n (sources n l) ≡ true → (y : Listed) (x : Table) → y ≡ Listed.Refused Refusal.BadGateways → x ≡ fresh [] → Begins y x n l
-  unfolding listed made
-  begins-refused h y x e f = record { answer = ap ofListed e ∙ rw h; table = f ∙ rw h }
+  sits-refused : refusedList n (sources n l) ≡ true → (y : Listed) (g : List Source) → y ≡ Listed.Refused Refusal.BadGateways → g ≡ replicate 4 noSource → Sits y g n l
+  unfolding listed seats
+  sits-refused h y g e f = record { answer = ap ofListed e ∙ rw h; seated = f ∙ rw h }
 
-  pub begins-long : 4 < n → (y : Listed) (x : Table) → y ≡ Listed.Refused Refusal.BadGateways → x ≡ fresh [] → Begins y x n l
+  pub sits-long : 4 < n → (y : Listed) (g : List Source) → y ≡ Listed.Refused Refusal.BadGateways → g ≡ replicate 4 noSource → Sits y g n l
   unfolding refusedList
-  begins-long h = begins-refused (rw (lt-ltb 4 n h))
+  sits-long h = sits-refused (rw (lt-ltb 4 n h))
 
   module _ (short : n ≤ 4) where
-    pub begins-unfit : leb 1 (count (unfit (sources n l)) (sources n l)) ≡ true → (y : Listed) (x : Table) → y ≡ Listed.Refused Refusal.BadGateways → x ≡ fresh [] → Begins y x n l
+    pub sits-unfit : leb 1 (count (unfit (sources n l)) (sources n l)) ≡ true → (y : Listed) (g : List Source) → y ≡ Listed.Refused Refusal.BadGateways → g ≡ replicate 4 noSource → Sits y g n l
     unfolding refusedList
-    begins-unfit h = begins-refused (rw (le-ltb 4 n short, h))
+    sits-unfit h = sits-refused (rw (le-ltb 4 n short, h))
 
-    pub begins : leb 1 (count (unfit (sources n l)) (sources n l)) ≡ false → (x : Table) → x ≡ record { slots = replicate 8 freeSlot; last = 0; gateways = seats (sources n l) } → Begins Listed.Accepted x n l
-    unfolding refusedList listed made fresh
-    begins h x e = record { answer = rw (le-ltb 4 n short, h); table = e ∙ rw (le-ltb 4 n short, h) }
+    pub sits : leb 1 (count (unfit (sources n l)) (sources n l)) ≡ false → (g : List Source) → g ≡ seats (sources n l) → Sits Listed.Accepted g n l
+    unfolding refusedList listed
+    sits h g e = record { answer = rw (le-ltb 4 n short, h); seated = e ∙ rw (le-ltb 4 n short, h) }
 
 -- ---- a list that is not refused
 
@@ -132,29 +132,46 @@ pub not-long : (n : ℕ) (gs : List Source) → refusedList n gs ≡ false → n
 unfolding refusedList
 not-long n gs e = ltb-false 4 n (or-no (ltb 4 n) (leb 1 (count (unfit gs) gs)) e .0)
 
-module _ (n : ℕ) (l : List Gateway) (y : Listed) (x : Table) (B : Begins y x n l) where
-  pub when-fit : refusedList n (sources n l) ≡ false → x ≡ fresh (sources n l)
-  unfolding made
-  when-fit e = rw e at (B .table)
-
+-- an answer y to the list says whether it is refused
+module _ (n : ℕ) (l : List Gateway) (y : Listed) (A : ofListed y ≡ listed n (sources n l)) where
   pub when-accepted : y ≡ Listed.Accepted → refusedList n (sources n l) ≡ false
   unfolding listed
-  when-accepted a = by-test (refusedList n (sources n l)) (λ e. not-refused tt 14 (sym (B .answer ∙ rw e) ∙ ap ofListed a)) (λ e. e)
+  when-accepted a = by-test (refusedList n (sources n l)) (λ e. not-refused tt 14 (sym (A ∙ rw e) ∙ ap ofListed a)) (λ e. e)
 
   pub when-refused : (r : Refusal) → y ≡ Listed.Refused r → (refusedList n (sources n l) ≡ true) × (numberOf r ≡ 14)
   unfolding listed
   when-refused r a = by-test (refusedList n (sources n l))
-      (λ e. (e, number-is (sym (ap ofListed a) ∙ B .answer ∙ rw e)))
-      (λ e. not-refused tt (numberOf r) (sym (ap ofListed a) ∙ B .answer ∙ rw e))
+      (λ e. (e, number-is (sym (ap ofListed a) ∙ A ∙ rw e)))
+      (λ e. not-refused tt (numberOf r) (sym (ap ofListed a) ∙ A ∙ rw e))
     where
       number-is : {m k : ℕ} → _≡_ {A = Answer (Unit {0})} (refused m) (refused k) → m ≡ k
       number-is q = cc q
 
--- the table that `Table::new` makes of a list that it accepts is a fresh one, and the list is one that 14 lets pass
-pub new-fresh : (n : ℕ) (l : List Gateway) (x : Table) → length l ≡ 4 → Begins Listed.Accepted x n l → (x ≡ fresh (sources n l)) × Gateways (sources n l)
-new-fresh n l x four B =
-    let e = when-accepted n l Listed.Accepted x B refl in
-    (when-fit n l Listed.Accepted x B e, accepted n l (omega (arith, not-long n (sources n l) e)) e)
+-- a table begun with these seats, and one that a refused list leaves
+module _ (n : ℕ) (l : List Gateway) (y : Listed) (g : List Source) (S : Sits y g n l) (t : Table) where
+  pub begins-accepted : y ≡ Listed.Accepted → (x : Table) → x ≡ record { slots = replicate 8 freeSlot; last = 0; gateways = g } → Begins Listed.Accepted t x n l
+  unfolding made fresh
+  begins-accepted a x e =
+      let h = when-accepted n l y (S .answer) a in
+      let q : g ≡ seats (sources n l) = S .seated ∙ rw h in
+      record { answer = ap ofListed (sym a) ∙ S .answer; table = e ∙ rw (h, q) }
+
+  pub begins-refused : (r : Refusal) → y ≡ Listed.Refused r → Begins (Listed.Refused r) t t n l
+  unfolding made
+  begins-refused r a =
+      let h = when-refused n l y (S .answer) r a .0 in
+      record { answer = ap ofListed (sym a) ∙ S .answer; table = rw h }
+
+module _ (n : ℕ) (l : List Gateway) (y : Listed) (t x : Table) (B : Begins y t x n l) where
+  pub when-fit : refusedList n (sources n l) ≡ false → x ≡ fresh (sources n l)
+  unfolding made
+  when-fit e = rw e at (B .table)
+
+-- the table that a list makes that is accepted is a fresh one, and the list is one that 14 lets pass
+pub new-fresh : (n : ℕ) (l : List Gateway) (t x : Table) → length l ≡ 4 → Begins Listed.Accepted t x n l → (x ≡ fresh (sources n l)) × Gateways (sources n l)
+new-fresh n l t x four B =
+    let e = when-accepted n l Listed.Accepted (B .answer) refl in
+    (when-fit n l Listed.Accepted t x B e, accepted n l (omega (arith, not-long n (sources n l) e)) e)
 
 -- its last time
 pub fresh-last : (gs : List Source) → fresh gs .last ≡ 0

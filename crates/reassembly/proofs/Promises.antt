@@ -13,16 +13,15 @@ use Rattle.reassembly.specs.declared.table.Gateway.{Gateway}
 use Rattle.reassembly.specs.Lists.{count, firstAt}
 use Rattle.reassembly.specs.Slots.{opened, isFree, expired, gatesOf, isGate, held, free, mayOpen, opening}
 use Rattle.reassembly.specs.Parts.{Part, Reply, kept, out, refused, told, ofOutcome, Put}
-use Rattle.reassembly.specs.Table.{Call, part, State, Result, slotsAt, step, run, opensIn, endsIn, takenSince, Lands, Gives}
+use Rattle.reassembly.specs.Table.{Call, part, State, Result, slotsAt, step, run, opensIn, endsIn, takenSince, Lands, Received, Gives}
 use Rattle.reassembly.specs.Cover.{In, Has, MadeOf}
-use Rattle.reassembly.specs.Fresh.{Begins, ofListed, Gateways, begun}
+use Rattle.reassembly.specs.Fresh.{Sits, Begins, ofListed, Gateways, begun}
 use Rattle.reassembly.specs.declared.slot.Source.{Source}
 use Rattle.reassembly.specs.declared.slot.Key.{Key}
 use Rattle.reassembly.specs.declared.slot.Slot.{Slot}
 use Rattle.reassembly.specs.declared.part.Outcome.{Outcome}
 use Rattle.reassembly.specs.declared.part.InSlot.{InSlot}
 use Rattle.reassembly.specs.declared.table.Table.{Table}
-use Rattle.reassembly.specs.declared.table.Received.{Received}
 use Rattle.reassembly.specs.declared.table.Listed.{Listed}
 use Rattle.reassembly.proofs.Lists.{firstAt-found}
 use Rattle.reassembly.proofs.Gateways.{idle, free-for-idle, mayOpen-none, mayOpen-rule, Sound}
@@ -118,5 +117,8 @@ lands-one q i m₀ o₀ y z m m′ o o′ A B =
     let t : y .slot ≡ z .slot = A .slot ∙ sym (B .slot) in
     (ap₂ (λ (x : Outcome) (u : Slot). record { outcome = x; slot = u }) a t, A .memory ∙ sym (B .memory), A .output ∙ sym (B .output))
 
-pub begun-one : (n : ℕ) (l : List Gateway) (y z : Listed) (x u : Table) → Begins y x n l → Begins z u n l → (y ≡ z) × (x ≡ u)
-begun-one n l y z x u A B = (listed-one y z (A .answer ∙ sym (B .answer)), A .table ∙ sym (B .table))
+pub sits-one : (n : ℕ) (l : List Gateway) (y z : Listed) (g h : List Source) → Sits y g n l → Sits z h n l → (y ≡ z) × (g ≡ h)
+sits-one n l y z g h A B = (listed-one y z (A .answer ∙ sym (B .answer)), A .seated ∙ sym (B .seated))
+
+pub begun-one : (n : ℕ) (l : List Gateway) (y z : Listed) (t x u : Table) → Begins y t x n l → Begins z t u n l → (y ≡ z) × (x ≡ u)
+begun-one n l y z t x u A B = (listed-one y z (A .answer ∙ sym (B .answer)), A .table ∙ sym (B .table))

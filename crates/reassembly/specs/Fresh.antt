@@ -55,11 +55,16 @@ pub record Gateways (gs : List Source) : Type 0 where
 unfoldable pub listed : ℕ → List Source → Answer (Unit {0})
 listed n gs = choose (refusedList n gs) (refused 14) (is tt)
 
--- a refused list makes a table without gateways
-unfoldable pub made : ℕ → List Source → Table
-made n gs = choose (refusedList n gs) (fresh []) (fresh gs)
-
--- what `Table::new` answers, and the table that it makes
-pub record Begins (y : Listed) (x : Table) (n : ℕ) (l : List Gateway) : Type 0 where
+-- what `seat` answers, and the seats: nobody's where the list is refused
+pub record Sits (y : Listed) (g : List Source) (n : ℕ) (l : List Gateway) : Type 0 where
   pub answer : ofListed y ≡ listed n (sources n l)
-  pub table : x ≡ made n (sources n l)
+  pub seated : g ≡ choose (refusedList n (sources n l)) (seats []) (seats (sources n l))
+
+-- what a list of n gateways makes of the table t: a refused list leaves it as it was
+unfoldable pub made : Table → ℕ → List Source → Table
+made t n gs = choose (refusedList n gs) t (fresh gs)
+
+-- the answer to a list, and the table afterwards, t before
+pub record Begins (y : Listed) (t x : Table) (n : ℕ) (l : List Gateway) : Type 0 where
+  pub answer : ofListed y ≡ listed n (sources n l)
+  pub table : x ≡ made t n (sources n l)

@@ -13,9 +13,9 @@ use Rattle.reassembly.specs.Slots.{sameKey, owner, freeSlot, opened, isF
 use Rattle.reassembly.specs.Parts.{Part, Reply, kept, out, refused, told, ofOutcome, outputAfter, fits, Put, place, offer}
 use Rattle.reassembly.specs.declared.slot.Key.{Key}
 use Rattle.reassembly.specs.declared.slot.Slot.{Slot}
+use Rattle.reassembly.specs.declared.part.Outcome.{Outcome}
 use Rattle.reassembly.specs.declared.part.InSlot.{InSlot}
 use Rattle.reassembly.specs.declared.table.Table.{Table}
-use Rattle.reassembly.specs.declared.table.Received.{Received}
 
 -- What a call brings. short: too little was lent (7). other: anything but a part, with what it is answered (an unfragmented
 -- datagram handed out, or a refusal). part: a fragment that passed every check up to 9.
@@ -132,6 +132,11 @@ pub record Lands (r : InSlot) (i : ℕ) (m₀ m o₀ o : List ℕ) (q : Put) : T
   pub slot : r .slot ≡ q .slot
   pub memory : m ≡ splice m₀ i (q .bytes)
   pub output : o ≡ outputAfter (q .reply) o₀
+
+-- the answer of a call, and the table after it
+pub record Received : Type 0 where
+  pub answer : Outcome
+  pub table : Table
 
 -- the answer r, the lent memory m and the output o, o₀ before, are as the result says
 pub record Gives (r : Received) (m o₀ o : List ℕ) (q : Result) : Type 0 where

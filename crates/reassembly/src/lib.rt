@@ -2,9 +2,8 @@
 //
 // - `slot`: addresses as two numbers, keys, and a slot's record. `part`: a part offered to one slot and its 2,048
 //   bytes.
-// - `table`: eight slots, the last time and at most four gateways, by value. `Table::new` takes the gateway list. A
-//   call takes its time by `is_due` and `aged`, finds the slot of a part by `find` and `to_open`, and puts it there
-//   by `take_at`.
+// - `table`: what a table is, the list of its gateways (`seat`), and a part taken by one of its slots (`take_at`). The
+//   table itself is kept, aged and searched as numbers, in crate `words`.
 //
 // What a call does to the table, the lent memory and the output is specs/Table.antt's `step`. The contract of each
 // function is a piece of it; the receiver takes them in their order. proofs/ shows of every table that comes from
@@ -21,15 +20,11 @@ pub use slot::Key;
 pub use slot::Node;
 pub use slot::Slot;
 pub use slot::Source;
-pub use table::Fresh;
 pub use table::Gateway;
 pub use table::Listed;
-pub use table::Received;
+pub use table::Seated;
 pub use table::Table;
 pub use table::Target;
-pub use table::count_free;
-pub use table::count_held;
-pub use table::is_gateway;
 pub use table::is_short;
+pub use table::seat;
 pub use table::take_at;
-pub use table::to_open;

@@ -1,20 +1,18 @@
-// The slot table: eight slots, the last time and at most four gateways.
+// The slot table: what it is, the list of its gateways, and a part taken by one of its slots.
 ghost use mathlib.Core.Path.{_≡_};
-ghost use mathlib.Core.List.{[]};
-ghost use mathlib.Core.Bool.{not, _&&_, _||_};
+ghost use mathlib.Core.Bool.{_||_};
 ghost use Prim.Native.Nat.{_+_, _*_, _<_, _≤_};
 ghost use lib.ListN.{length, take, replicate};
-ghost use lib.Dec.{eqb, ltb, leb};
+ghost use lib.Dec.{ltb, leb};
 ghost use Rattle.octets.specs.Read.{choose};
 ghost use Rattle.octets.specs.declared.refusal.Refusal.{Refusal};
 ghost use Rattle.reassembly.specs.declared.part.Outcome.{Outcome};
 ghost use Rattle.reassembly.specs.declared.table.Listed.{Listed};
-ghost use Rattle.reassembly.specs.Lists.{count, firstAt, those};
-ghost use Rattle.reassembly.specs.Slots.{sameSource, opened, expired, expire, freeSlot, isKey, present, isFree};
-ghost use Rattle.reassembly.specs.Slots.{gatesOf, isGate, held, free, idleOthers, opening};
+ghost use Rattle.reassembly.specs.Lists.{count};
+ghost use Rattle.reassembly.specs.Slots.{noSource, sameSource, opened, isKey};
 ghost use Rattle.reassembly.specs.Parts.{withBytes, offer, Placeable};
-ghost use Rattle.reassembly.specs.Table.{chunk, withSlots, takeAt, Lands};
-ghost use Rattle.reassembly.specs.Fresh.{seats, fresh, sources, unfit, Begins};
+ghost use Rattle.reassembly.specs.Table.{chunk, takeAt, Lands};
+ghost use Rattle.reassembly.specs.Fresh.{seats, sources, unfit, Sits};
 use super::part::InSlot;
 use super::part::LARGEST;
 use super::part::Outcome;
@@ -24,7 +22,6 @@ use super::part::offer_part;
 use super::slot::Key;
 use super::slot::Slot;
 use super::slot::Source;
-use super::slot::is_expired;
 use ieee802154::Address;
 use ieee802154::PanField;
 use octets::refusal::Refusal;
@@ -42,8 +39,8 @@ pub struct Gateway {
     pub pan: PanField,
 }
 
-// The slots, the last time taken, and the gateways: a seat without one holds an absent address.
-#[repr(C)]
+// What a table is: the slots, the last time taken, and the gateways; a seat without one holds an absent address. Its
+// caller keeps it as numbers (crate `words`).
 pub struct Table {
     pub slots: [Slot; 8],
     pub last: u64,
@@ -57,112 +54,41 @@ pub struct Target {
     pub time: u64,
 }
 
-// The answer of a call, and the table after it.
-pub struct Received {
-    pub answer: Outcome,
-    pub table: Table,
-}
-
 // Whether a gateway list was taken.
 pub enum Listed {
     Accepted,
     Refused(Refusal),
 }
 
-// A new table; one without gateways where the list was refused.
-pub struct Fresh {
+// A gateway list, judged, and its seats; nobody's where it was refused.
+pub struct Seated {
     pub answer: Listed,
-    pub table: Table,
+    pub seats: [Source; 4],
 }
 
-impl Table {
-    // A table at its beginning, of the first `count` of these gateways.
-    pub fn new(gateways: [Gateway; 4], count: usize) -> Fresh
-        ensures { λ r. ⌜ Begins (r .answer) (r .table) count gateways ⌝ }
-    {
-        if 4 < count {
-            return Table::refused();
-        }
-        let seats = seat_all(gateways, count);
-        if has_unfit(seats, count) {
-            return Table::refused();
-        }
-        let table = Table::of(seats);
-        let answer = Listed::Accepted;
-        Fresh { answer, table }
+// The seats of the first `count` of these gateways: 14 where there are more than four, two that are equal, or one whose
+// address is absent.
+pub fn seat(gateways: [Gateway; 4], count: usize) -> Seated
+    ensures { λ r. ⌜ Sits (r .answer) (r .seats) count gateways ⌝ }
+{
+    if 4 < count {
+        return nobody();
     }
+    let seats = seat_all(gateways, count);
+    if has_unfit(seats, count) {
+        return nobody();
+    }
+    let answer = Listed::Accepted;
+    Seated { answer, seats }
+}
 
-    // The table as a call at a time leaves it that brings no part: the time is taken, and slots 60,000 ms or more past
-    // their opening are freed.
-    pub fn aged(self, time: u64) -> Table
-        ensures { λ r. ⌜ r ≡ withSlots self time (expire time (self .slots)) ⌝ }
-    {
-        let mut x = self;
-        let mut i: usize = 0;
-        while i < SLOTS {
-            let live = x.slots[i].live;
-            let since = x.slots[i].since;
-            if is_expired(live, since, time) {
-                let s = Slot::free();
-                x.slots[i] = s;
-            }
-            i = i + 1;
-        }
-        x.last = time;
-        x
-    }
-
-    // Whether a slot is 60,000 ms or more past its opening.
-    pub fn is_due(self, time: u64) -> bool
-        ensures { λ r. ⌜ r ≡ leb 1 (count (expired time) (self .slots)) ⌝ }
-    {
-        let mut i: usize = 0;
-        while i < SLOTS {
-            let live = self.slots[i].live;
-            let since = self.slots[i].since;
-            if is_expired(live, since, time) {
-                return true;
-            }
-            i = i + 1;
-        }
-        false
-    }
-
-    // The slot that is open under a key, or 8.
-    pub fn find(self, key: Key) -> usize
-        ensures { λ r. ⌜ r ≡ firstAt (isKey key) (self .slots) ⌝ }
-    {
-        let mut i: usize = 0;
-        while i < SLOTS {
-            let s = self.slots[i];
-            if s.has_key(key) {
-                return i;
-            }
-            i = i + 1;
-        }
-        8
-    }
-
-    fn of(seats: [Source; 4]) -> Table
-        ensures { λ r. ⌜ r ≡ record { slots = replicate 8 freeSlot; last = 0; gateways = seats } ⌝ }
-    {
-        let s = Slot::free();
-        let slots = [s; 8];
-        Table {
-            slots,
-            last: 0,
-            gateways: seats,
-        }
-    }
-
-    fn refused() -> Fresh
-        ensures { λ r. ⌜ (r .answer ≡ Listed.Refused Refusal.BadGateways) × (r .table ≡ fresh []) ⌝ }
-    {
-        let n = Source::NONE;
-        let table = Table::of([n; 4]);
-        let answer = Listed::Refused(Refusal::BadGateways);
-        Fresh { answer, table }
-    }
+fn nobody() -> Seated
+    ensures { λ r. ⌜ (r .answer ≡ Listed.Refused Refusal.BadGateways) × (r .seats ≡ replicate 4 noSource) ⌝ }
+{
+    let n = Source::NONE;
+    let seats = [n; 4];
+    let answer = Listed::Refused(Refusal::BadGateways);
+    Seated { answer, seats }
 }
 
 // The seats of the first `count` gateways.
@@ -229,110 +155,6 @@ pub fn is_short(mem: usize, out: usize) -> bool
     ensures { λ r. ⌜ r ≡ (ltb mem 16384 || ltb out 2047) ⌝ }
 {
     mem < LENT || out < LARGEST
-}
-
-// Whether an address is one of the gateways.
-pub fn is_gateway(gateways: [Source; 4], a: Source) -> bool
-    ensures { λ r. ⌜ r ≡ isGate a (those present gateways) ⌝ }
-{
-    let mut i: usize = 0;
-    while i < 4 {
-        let g = gateways[i];
-        if is_seat_of(g, a) {
-            return true;
-        }
-        i = i + 1;
-    }
-    false
-}
-
-fn is_seat_of(g: Source, a: Source) -> bool
-    ensures { λ r. ⌜ r ≡ (present g && sameSource a g) ⌝ }
-{
-    g.is_present() && a.same(g)
-}
-
-// The lowest free slot, or 8.
-fn lowest_free(t: Table) -> usize
-    ensures { λ r. ⌜ r ≡ firstAt isFree (t .slots) ⌝ }
-{
-    let mut i: usize = 0;
-    while i < SLOTS {
-        if t.slots[i].live != 1 {
-            return i;
-        }
-        i = i + 1;
-    }
-    8
-}
-
-// How many slots are free.
-pub fn count_free(t: Table) -> usize
-    ensures { λ r. ⌜ r ≡ free (t .slots) ⌝ }
-{
-    let mut found: usize = 0;
-    let mut i: usize = 0;
-    while i < SLOTS {
-        if t.slots[i].live != 1 {
-            found = found + 1;
-        }
-        i = i + 1;
-    }
-    found
-}
-
-// How many slots a gateway holds.
-pub fn count_held(t: Table, g: Source) -> usize
-    ensures { λ r. ⌜ r ≡ held g (t .slots) ⌝ }
-{
-    let mut n: usize = 0;
-    let mut i: usize = 0;
-    while i < SLOTS {
-        let s = t.slots[i];
-        if s.is_of(g) {
-            n = n + 1;
-        }
-        i = i + 1;
-    }
-    n
-}
-
-// Whether a seat is that of another gateway than g that holds no slot.
-fn is_idle_other(t: Table, h: Source, g: Source) -> bool
-    ensures { λ r. ⌜ r ≡ (present h && (not (sameSource h g) && eqb (held h (t .slots)) 0)) ⌝ }
-{
-    h.is_present() && (!h.same(g) && count_held(t, h) == 0)
-}
-
-fn count_idle_others(t: Table, g: Source) -> usize
-    ensures { λ r. ⌜ r ≡ idleOthers g (gatesOf t) (t .slots) ⌝ }
-{
-    let mut n: usize = 0;
-    let mut i: usize = 0;
-    while i < 4 {
-        let h = t.gateways[i];
-        if is_idle_other(t, h, g) {
-            n = n + 1;
-        }
-        i = i + 1;
-    }
-    n
-}
-
-// The slot that a gateway may open, or 8.
-pub fn to_open(t: Table, g: Source) -> usize
-    ensures { λ r. ⌜ r ≡ opening g (gatesOf t) (t .slots) ⌝ }
-{
-    let h = count_held(t, g);
-    if h == 0 {
-        return lowest_free(t);
-    }
-    if h < 3 {
-        if count_idle_others(t, g) < count_free(t) {
-            return lowest_free(t);
-        }
-    }
-    8
 }
 
 // A part under the key of slot i, whose record is s; the slot's bytes are lent on.

@@ -4,6 +4,7 @@ ghost use Prim.Native.Nat.{_+_, _*_, _<_, _≤_};
 ghost use lib.ListN.{length, getD, set, replicate};
 ghost use Rattle.octets.specs.Write.{put};
 ghost use Rattle.reassembly.specs.Slots.{freeSlot, noSource, expire, expire1};
+ghost use Rattle.reassembly.specs.Fresh.{Begins};
 ghost use Rattle.reassembly.specs.Table.{withSlots};
 ghost use Rattle.words.specs.Words.{fourIn, tableIn, withSlot, withSeat};
 ghost use Rattle.words.specs.Words.{sourceWords, headWords, packed, slotWords};
@@ -11,8 +12,11 @@ use super::LAST;
 use super::SEATS;
 use super::SLOT_WORDS;
 use super::WORDS;
+use reassembly::Gateway;
+use reassembly::Listed;
 use reassembly::Slot;
 use reassembly::Source;
+use reassembly::seat;
 use reassembly::slot::is_expired;
 use reassembly::table::SLOTS;
 
@@ -147,7 +151,7 @@ fn clear(t: &mut [u64; 149])
 }
 
 // A table at its beginning, of these seats.
-pub fn begin(t: &mut [u64; 149], seats: [Source; 4])
+fn sit(t: &mut [u64; 149], seats: [Source; 4])
     ensures { λ _. ⌜ tableIn (now (t .exit)) ≡ record { slots = replicate 8 freeSlot; last = 0; gateways = seats } ⌝ }
 {
     clear(t);
@@ -159,4 +163,20 @@ pub fn begin(t: &mut [u64; 149], seats: [Source; 4])
     put_seat(t, 2, c);
     let d = seats[3];
     put_seat(t, 3, d);
+}
+
+// A table of the first `count` of these gateways, at its beginning; a refused list, 14, leaves it as it was.
+pub fn begin(t: &mut [u64; 149], gateways: [Gateway; 4], count: usize) -> Listed
+    ensures { λ r. ⌜ Begins r (tableIn (now (t .entry))) (tableIn (now (t .exit))) count gateways ⌝ }
+{
+    let s = seat(gateways, count);
+    let answer = s.answer;
+    match answer {
+        Listed::Accepted => {
+            let seats = s.seats;
+            sit(t, seats);
+            Listed::Accepted
+        }
+        Listed::Refused(e) => Listed::Refused(e),
+    }
 }

@@ -1,51 +1,26 @@
-use Rattle.reassembly.specs.Slots.{noSource, noNode}
-use Rattle.words.proofs.Numbers.{table-begun}
+use Rattle.reassembly.proofs.Fresh.{begins-accepted, begins-refused}
 use borrow.Author.Needs.{needs}
 use Rattle.words.proofs.write.begin.Statement.{statement}
 use Rattle.words.proofs.write.begin.Tie as tie
 
-clear-requires : tie.Need-clear-requires
-clear-requires c κs = search needs
+seat-requires : tie.Need-seat-requires
+seat-requires c κs = search needs
 
-array-copy-out-a : tie.Need-array-copy-out-a
-array-copy-out-a c = search needs
+enum-told : tie.Need-enum-told
+enum-told c = search needs
 
-put-seat-requires : tie.Need-put-seat-requires
-put-seat-requires c κs = search needs
+sit-requires : tie.Need-sit-requires
+sit-requires c κs = search needs
 
-array-copy-out-b : tie.Need-array-copy-out-b
-array-copy-out-b c = search needs
-
-put-seat-requires-2 : tie.Need-put-seat-requires-2
-put-seat-requires-2 c κs = search needs
-
-array-copy-out-c : tie.Need-array-copy-out-c
-array-copy-out-c c = search needs
-
-put-seat-requires-3 : tie.Need-put-seat-requires-3
-put-seat-requires-3 c κs = search needs
-
-array-copy-out-d : tie.Need-array-copy-out-d
-array-copy-out-d c = search needs
-
-put-seat-requires-4 : tie.Need-put-seat-requires-4
-put-seat-requires-4 c κs = search needs
+enum-known-answer : tie.Need-enum-known-answer
+enum-known-answer c = search needs
 
 returns : tie.Need-returns
-unfolding noSource noNode
-returns c = table-begun (c .before .before .before .before .before .before .before .before .before .before .before .before .before .before .args .t2) (c .before .before .before .before .before .before .before .before .before .before .before .before .before .before .good .1 .0 .1 .0 .1) _ _ _ _ _ (c .before .before .before .before .before .before .before .before .before .before .before .before .clear .ensures) (c .before .before .before .before .before .before .before .before .before .put-seat .ensures) (c .before .before .before .before .before .before .put-seat2 .ensures) (c .before .before .before .put-seat3 .ensures) (c .put-seat4 .ensures)
+returns c = begins-accepted (c .before .before .before .before .before .before .args .count) (c .before .before .before .before .before .before .args .gateways) _ _ (c .before .before .before .before .before .seat .ensures) _ (c .before .before .before .enum-told .given .1) _ (c .sit .ensures)
+
+returns-2 : tie.Need-returns-2
+returns-2 c = begins-refused (c .before .before .before .before .args .count) (c .before .before .before .before .args .gateways) _ _ (c .before .before .before .seat .ensures) _ _ (c .before .answer .given .1)
 
 pub begin-spec : {M : Type 1} → statement M
 begin-spec =
-    tie.close
-    (tie.spec
-    clear-requires
-    array-copy-out-a
-    put-seat-requires
-    array-copy-out-b
-    put-seat-requires-2
-    array-copy-out-c
-    put-seat-requires-3
-    array-copy-out-d
-    put-seat-requires-4
-    returns)
+    tie.close (tie.spec seat-requires enum-told sit-requires enum-known-answer returns returns-2)
