@@ -17,26 +17,22 @@ const NO_GATEWAY: Gateway = Gateway {
     pan: PanField::None,
 };
 
-// The table, once a list of gateways was taken.
+// The table, once a list of gateways was taken, and the place in the output behind the last answer.
 pub struct Session {
     pub table: Table,
     pub made: bool,
-}
-
-// The table after a line, and the place behind its answer.
-pub struct Done {
-    pub session: Session,
     pub to: usize,
 }
 
-// A call as its line says it. The frame stands at the front of the scratch room, and the contexts behind it.
+// A call as its line says it, where it says one. The frame stands at the front of the scratch room, and the contexts
+// behind it.
 struct Request {
     time: u64,
     frame: usize,
     contexts: usize,
     mem: u64,
     out: u64,
-    next: usize,
+    said: bool,
 }
 
 impl Request {
@@ -47,7 +43,7 @@ impl Request {
         contexts: 0,
         mem: 0,
         out: 0,
-        next: field::NONE,
+        said: false,
     };
 }
 
@@ -57,20 +53,31 @@ impl Session {
         let none = NO_GATEWAY;
         let f = Table::new([none; 4], 0);
         let table = f.table;
-        Session { table, made: false }
+        Session {
+            table,
+            made: false,
+            to: 0,
+        }
+    }
+
+    // The same table, and another place in the output.
+    pub fn moved_to(self, to: usize) -> Session {
+        let table = self.table;
+        Session {
+            table,
+            made: self.made,
+            to,
+        }
     }
 }
 
-fn bad(session: Session, out: &mut [u8], to: usize) -> Done {
-    Done {
-        session,
-        to: print::text(out, to, b"bad"),
-    }
+fn bad(session: Session, out: &mut [u8]) -> Session {
+    session.moved_to(print::text(out, session.to, b"bad"))
 }
 
 // `gateways GATEWAY GATEWAY ..`: the table is made. Past the fourth only how many there are counts, so any seat does
 // for them.
-fn gateways(line: &[u8], from: usize, session: Session, out: &mut [u8], to: usize) -> Done {
+fn gateways(line: &[u8], from: usize, session: Session, out: &mut [u8]) -> Session {
     let none = NO_GATEWAY;
     let mut all = [none; 4];
     let mut count: usize = 0;
@@ -86,25 +93,23 @@ fn gateways(line: &[u8], from: usize, session: Session, out: &mut [u8], to: usiz
         next = g.next;
     }
     if session.made {
-        return bad(session, out, to);
+        return bad(session, out);
     }
     if !field::ended(line, next) {
-        return bad(session, out, to);
+        return bad(session, out);
     }
     let f = Table::new(all, count);
     let answer = f.answer;
     match answer {
         Listed::Accepted => {
             let table = f.table;
-            Done {
-                session: Session { table, made: true },
-                to: print::text(out, to, b"ok"),
+            Session {
+                table,
+                made: true,
+                to: print::text(out, session.to, b"ok"),
             }
         }
-        Listed::Refused(e) => Done {
-            session,
-            to: answer::refused(out, to, e),
-        },
+        Listed::Refused(e) => session.moved_to(answer::refused(out, session.to, e)),
     }
 }
 
@@ -125,70 +130,63 @@ fn read_request(line: &[u8], from: usize, scratch: &mut [u8]) -> Request {
         contexts: contexts.count,
         mem: mem.value,
         out: out.value,
-        next: out.next,
+        said: field::ended(line, out.next),
     }
 }
 
 // A call on the table, and its answer.
 fn receive_frame(
-    table: Table,
+    session: Session,
     r: Request,
     scratch: &[u8],
     lent: &mut [u8],
     datagram: &mut [u8],
     out: &mut [u8],
-    to: usize,
-) -> Done {
+) -> Session {
     let frame = field::part(scratch, 0, r.frame);
     let contexts = field::part(scratch, r.frame, r.contexts);
-    let got = receive(table, r.time, frame, contexts, lent, datagram);
+    let before = session.table;
+    let got = receive(before, r.time, frame, contexts, lent, datagram);
     let answer = got.answer;
-    let after = got.table;
-    let n = answer::outcome(out, to, answer, datagram);
-    Done {
-        session: Session {
-            table: after,
-            made: true,
-        },
-        to: answer::slots(out, n, after),
+    let table = got.table;
+    let n = answer::outcome(out, session.to, answer, datagram);
+    Session {
+        table,
+        made: true,
+        to: answer::slots(out, n, table),
     }
 }
 
 // `call ..`: so much of the memory and of the output is lent as the line says.
 fn call(
-    line: &[u8],
-    from: usize,
     session: Session,
-    scratch: &mut [u8],
+    r: Request,
+    scratch: &[u8],
     lent: &mut [u8],
     datagram: &mut [u8],
     out: &mut [u8],
-    to: usize,
-) -> Done {
-    let r = read_request(line, from, scratch);
+) -> Session {
     if !session.made {
-        return bad(session, out, to);
+        return bad(session, out);
     }
-    if !field::ended(line, r.next) {
-        return bad(session, out, to);
+    if !r.said {
+        return bad(session, out);
     }
     let mem = r.mem as usize;
     if lent.len() < mem {
-        return bad(session, out, to);
+        return bad(session, out);
     }
     let room = r.out as usize;
     if datagram.len() < room {
-        return bad(session, out, to);
+        return bad(session, out);
     }
-    let table = session.table;
     receive_frame(
-        table,
+        session,
         r,
         scratch,
         &mut lent[0..mem],
         &mut datagram[0..room],
         out,
-        to,
     )
 }
 
@@ -200,21 +198,18 @@ pub fn answer_line(
     lent: &mut [u8],
     datagram: &mut [u8],
     out: &mut [u8],
-    to: usize,
-) -> Done {
+) -> Session {
     if field::at(line, 0) == b'#' {
-        return Done {
-            session,
-            to: print::text(out, to, line),
-        };
+        return session.moved_to(print::text(out, session.to, line));
     }
     let name = field::upto(line, find(line, 0, b' '));
     let next = name.len() + 1;
     if same(name, b"gateways") {
-        return gateways(line, next, session, out, to);
+        return gateways(line, next, session, out);
     }
     if same(name, b"call") {
-        return call(line, next, session, scratch, lent, datagram, out, to);
+        let r = read_request(line, next, scratch);
+        return call(session, r, scratch, lent, datagram, out);
     }
-    bad(session, out, to)
+    bad(session, out)
 }

@@ -25,11 +25,10 @@ struct Unread {
     skip: bool,
 }
 
-// How far a run is between two steps: its input, its table, the place in the output, and whether it goes on.
+// How far a run is between two steps: its input, its table and the place in the output, and whether it goes on.
 struct Progress {
     unread: Unread,
     session: Session,
-    to: usize,
     more: bool,
 }
 
@@ -43,17 +42,16 @@ fn stopped(session: Session) -> Progress {
             skip: false,
         },
         session,
-        to: 0,
         more: false,
     }
 }
 
-// A run that goes on.
+// A run that goes on at a place in the output.
 fn going(unread: Unread, session: Session, to: usize) -> Progress {
+    let session = session.moved_to(to);
     Progress {
         unread,
         session,
-        to,
         more: true,
     }
 }
@@ -137,7 +135,7 @@ fn refill(input: &mut [u8], r: Progress, out: &[u8]) -> Progress {
     let u = r.unread;
     let start = u.start;
     let have = u.have;
-    if !io::write_all(1, field::upto(out, r.to)) {
+    if !io::write_all(1, field::upto(out, session.to)) {
         return stopped(session);
     }
     if have < start {
@@ -182,16 +180,16 @@ fn step(
     };
     let session = r.session;
     if u.skip {
-        return going(unread, session, r.to);
+        return going(unread, session, session.to);
     }
     let line = field::part(input, u.start, between(u.start, end));
-    let to = make_room(out, r.to, line.len());
-    let d = commands::answer_line(line, session, scratch, lent, datagram, out, to);
-    let after = d.session;
+    let to = make_room(out, session.to, line.len());
+    let before = session.moved_to(to);
+    let after = commands::answer_line(line, before, scratch, lent, datagram, out);
+    let session = after.moved_to(print::put(out, after.to, b'\n'));
     Progress {
         unread,
-        session: after,
-        to: print::put(out, d.to, b'\n'),
+        session,
         more: to != field::NONE,
     }
 }

@@ -18,6 +18,9 @@ use octets::write::put_be64;
 use octets::write::put_le16;
 use octets::write::put_le64;
 
+// The universal/local bit of an extended address.
+const UNIVERSAL_LOCAL: u64 = 0x0200_0000_0000_0000;
+
 // A PAN identifier.
 pub struct Pan(pub u16);
 
@@ -157,10 +160,10 @@ impl Address {
             Address::Absent => Eui64::None,
             Address::Short(_) => Eui64::None,
             Address::Extended(x) => {
-                if x / 0x0200_0000_0000_0000 % 2 == 0 {
-                    Eui64::Some(x + 0x0200_0000_0000_0000)
+                if x / UNIVERSAL_LOCAL % 2 == 0 {
+                    Eui64::Some(x + UNIVERSAL_LOCAL)
                 } else {
-                    Eui64::Some(x - 0x0200_0000_0000_0000)
+                    Eui64::Some(x - UNIVERSAL_LOCAL)
                 }
             }
         }

@@ -7,6 +7,36 @@ ghost use Rattle.ieee802154.specs.Control.{controlOf, wordOf, bitOf, sup
 ghost use Rattle.ieee802154.specs.Control.{hasSequence, mayOmit, omitsSequence, hasAddressing, carried01};
 ghost use Rattle.ieee802154.specs.Control.{carried2, carried};
 
+// The frame control field (IEEE 802.15.4, 7.2.2): where each of its parts begins, as the weight of the part's lowest
+// bit. The frame type is the lowest three bits. Bit 7 is reserved, and bit 9 says whether information elements follow.
+const SECURITY_ENABLED: u16 = 0x0008;
+
+const FRAME_PENDING: u16 = 0x0010;
+
+const ACK_REQUEST: u16 = 0x0020;
+
+const PAN_ID_COMPRESSION: u16 = 0x0040;
+
+const SEQUENCE_SUPPRESSED: u16 = 0x0100;
+
+const DST_ADDR_MODE: u16 = 0x0400;
+
+const FRAME_VERSION: u16 = 0x1000;
+
+const SRC_ADDR_MODE: u16 = 0x4000;
+
+// The same of two parts in the field's high byte.
+const HIGH_ELEMENTS: u8 = 0x02;
+
+const HIGH_VERSION: u8 = 0x10;
+
+// How many numbers the bits of a part make.
+const TYPES: u16 = 8;
+
+const MODES: u16 = 4;
+
+const VERSIONS: u16 = 4;
+
 // The frame type: every number of its three bits, named or not.
 pub struct FrameType(pub u8);
 
@@ -18,6 +48,8 @@ impl FrameType {
     pub const ACKNOWLEDGEMENT: FrameType = FrameType(2);
 
     pub const MAC_COMMAND: FrameType = FrameType(3);
+
+    const RESERVED: FrameType = FrameType(4);
 
     pub const MULTIPURPOSE: FrameType = FrameType(5);
 
@@ -38,6 +70,8 @@ pub struct AddressingMode(pub u8);
 impl AddressingMode {
     pub const ABSENT: AddressingMode = AddressingMode(0);
 
+    const RESERVED: AddressingMode = AddressingMode(1);
+
     pub const SHORT: AddressingMode = AddressingMode(2);
 
     pub const EXTENDED: AddressingMode = AddressingMode(3);
@@ -53,12 +87,14 @@ impl FrameVersion {
 
     pub const IEEE802154: FrameVersion = FrameVersion(2);
 
+    const RESERVED: FrameVersion = FrameVersion(3);
+
     // Whether a frame of this version and type may leave its sequence number out.
     pub fn may_omit(self, kind: FrameType) -> bool
         ensures { λ r. ⌜ r ≡ mayOmit (self .0) (kind .0) ⌝ }
     {
         if self.0 == FrameVersion::IEEE802154.0 {
-            return kind.0 < 4;
+            return kind.0 < FrameType::RESERVED.0;
         }
         false
     }
@@ -74,8 +110,8 @@ fn high_byte(frame: &[u8]) -> u8
 fn says_elements(b: u8) -> bool
     ensures { λ r. ⌜ r ≡ saysElements b ⌝ }
 {
-    if b / 16 % 4 == FrameVersion::IEEE802154.0 {
-        return b / 2 % 2 == 1;
+    if b / HIGH_VERSION % 4 == FrameVersion::IEEE802154.0 {
+        return b / HIGH_ELEMENTS % 2 == 1;
     }
     false
 }
@@ -107,22 +143,20 @@ pub struct Carried {
 }
 
 impl Control {
-    // The field's bits, the lowest first: 3 of the type, then one each for security (8), frame pending (16), a request
-    // of an acknowledgement (32), PAN compression (64) and a suppressed sequence number (256), and 2 each of the
-    // destination's mode (from 1024), the version (from 4096) and the source's mode (from 16384).
+    // The parts of the field.
     pub fn of(fc: u16) -> Control
         ensures { λ r. ⌜ r ≡ controlOf fc ⌝ }
     {
         Control {
-            frame_type: FrameType((fc % 8) as u8),
-            security_enabled: fc / 8 % 2 == 1,
-            frame_pending: fc / 16 % 2 == 1,
-            ack_request: fc / 32 % 2 == 1,
-            pan_id_compression: fc / 64 % 2 == 1,
-            sequence_suppressed: fc / 256 % 2 == 1,
-            dst_addr_mode: AddressingMode((fc / 1024 % 4) as u8),
-            frame_version: FrameVersion((fc / 4096 % 4) as u8),
-            src_addr_mode: AddressingMode((fc / 16384 % 4) as u8),
+            frame_type: FrameType((fc % TYPES) as u8),
+            security_enabled: fc / SECURITY_ENABLED % 2 == 1,
+            frame_pending: fc / FRAME_PENDING % 2 == 1,
+            ack_request: fc / ACK_REQUEST % 2 == 1,
+            pan_id_compression: fc / PAN_ID_COMPRESSION % 2 == 1,
+            sequence_suppressed: fc / SEQUENCE_SUPPRESSED % 2 == 1,
+            dst_addr_mode: AddressingMode((fc / DST_ADDR_MODE % MODES) as u8),
+            frame_version: FrameVersion((fc / FRAME_VERSION % VERSIONS) as u8),
+            src_addr_mode: AddressingMode((fc / SRC_ADDR_MODE % MODES) as u8),
         }
     }
 
@@ -130,29 +164,29 @@ impl Control {
     pub fn word(self) -> u16
         ensures { λ r. ⌜ r ≡ wordOf self ⌝ }
     {
-        let low = (self.frame_type.0 as u16) % 8
-            + bit_of(self.security_enabled) * 8
-            + bit_of(self.frame_pending) * 16
-            + bit_of(self.ack_request) * 32
-            + bit_of(self.pan_id_compression) * 64
-            + bit_of(self.sequence_suppressed) * 256;
-        let dst = (self.dst_addr_mode.0 as u16) % 4;
-        let version = (self.frame_version.0 as u16) % 4;
-        let src = (self.src_addr_mode.0 as u16) % 4;
-        low + dst * 1024 + version * 4096 + src * 16384
+        let low = (self.frame_type.0 as u16) % TYPES
+            + bit_of(self.security_enabled) * SECURITY_ENABLED
+            + bit_of(self.frame_pending) * FRAME_PENDING
+            + bit_of(self.ack_request) * ACK_REQUEST
+            + bit_of(self.pan_id_compression) * PAN_ID_COMPRESSION
+            + bit_of(self.sequence_suppressed) * SEQUENCE_SUPPRESSED;
+        let dst = (self.dst_addr_mode.0 as u16) % MODES;
+        let version = (self.frame_version.0 as u16) % VERSIONS;
+        let src = (self.src_addr_mode.0 as u16) % MODES;
+        low + dst * DST_ADDR_MODE + version * FRAME_VERSION + src * SRC_ADDR_MODE
     }
 
     // Whether the version and the modes are read here.
     pub fn supported(self) -> bool
         ensures { λ r. ⌜ r ≡ supported self ⌝ }
     {
-        if self.frame_version.0 == 3 {
+        if self.frame_version.0 == FrameVersion::RESERVED.0 {
             return false;
         }
-        if self.dst_addr_mode.0 == 1 {
+        if self.dst_addr_mode.0 == AddressingMode::RESERVED.0 {
             return false;
         }
-        if self.src_addr_mode.0 == 1 {
+        if self.src_addr_mode.0 == AddressingMode::RESERVED.0 {
             return false;
         }
         if self.frame_version.0 == FrameVersion::IEEE802154.0 {
@@ -172,7 +206,7 @@ impl Control {
         ensures { λ r. ⌜ r ≡ hasSequence self ⌝ }
     {
         let t = self.frame_type.0;
-        if t == 4 {
+        if t == FrameType::RESERVED.0 {
             return false;
         }
         t < FrameType::FRAGMENT_OR_FRAK.0
@@ -198,7 +232,7 @@ impl Control {
         if t == FrameType::ACKNOWLEDGEMENT.0 {
             return self.frame_version.0 == FrameVersion::IEEE802154.0;
         }
-        if t == 4 {
+        if t == FrameType::RESERVED.0 {
             return false;
         }
         t < FrameType::FRAGMENT_OR_FRAK.0

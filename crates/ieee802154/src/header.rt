@@ -23,6 +23,11 @@ use octets::write::Written;
 use octets::write::put_byte;
 use octets::write::put_le16;
 
+// The bytes of a frame: the frame control field and one more at least, and at most what the radio carries.
+const SHORTEST: usize = 3;
+
+const LONGEST: usize = 127;
+
 // The fields of a header.
 pub struct Repr {
     pub frame_type: FrameType,
@@ -148,10 +153,10 @@ impl Repr {
     pub fn parse(buf: &[u8]) -> Parsed
         ensures { λ r. ⌜ ofParsed r ≡ mac (now (buf .entry)) ⌝ }
     {
-        if buf.len() < 3 {
+        if buf.len() < SHORTEST {
             return Parsed::Refused(Refusal::Ended);
         }
-        if 127 < buf.len() {
+        if LONGEST < buf.len() {
             return Parsed::Refused(Refusal::BadLength);
         }
         Repr::header(buf)

@@ -6,18 +6,30 @@ use octets::cursor::ByteRead;
 use octets::cursor::Cursor;
 use octets::cursor::Skipped;
 
+// The security control byte: whether the frame counter is suppressed, and where the mode of the key identifier begins,
+// of which there are four.
+const COUNTER_SUPPRESSED: u8 = 0x20;
+
+const KEY_MODE: u8 = 0x08;
+
+const KEY_MODES: u8 = 4;
+
 // The bytes of the frame counter, which the security control byte may say is suppressed.
 fn counter_len(b: u8) -> u8
     ensures { λ r. ⌜ r ≡ counterLength b ⌝ }
 {
-    if b / 32 % 2 == 1 { 0 } else { 4 }
+    if b / COUNTER_SUPPRESSED % 2 == 1 {
+        0
+    } else {
+        4
+    }
 }
 
 // The bytes of the key identifier, by its mode.
 fn key_len(b: u8) -> u8
     ensures { λ r. ⌜ r ≡ keyLength b ⌝ }
 {
-    let mode = b / 8 % 4;
+    let mode = b / KEY_MODE % KEY_MODES;
     if mode == 0 {
         return 0;
     }

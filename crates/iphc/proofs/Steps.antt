@@ -3,8 +3,9 @@ use Prim.Native.Nat.{ℕ}
 use mathlib.Core.List.{List}
 use mathlib.Core.Path.{_≡_, refl, sym, ap, _∙_}
 use mathlib.Core.Option.{Option, none, some}
-use Rattle.octets.specs.Read.{Answer, is, refused, Placed, Read, andThen}
+use Rattle.octets.specs.Read.{Answer, is, refused, Placed, Read, got, andThen}
 use Rattle.octets.specs.Answers.{ofLong}
+use Rattle.octets.specs.Ipv6.{ip}
 use Rattle.octets.specs.Refusal.{numberOf}
 use Rattle.octets.specs.declared.refusal.Refusal.{Refusal}
 use Rattle.octets.specs.declared.cursor.Cursor.{Cursor}
@@ -15,7 +16,7 @@ use Rattle.ieee802154.specs.Address.{ofEui}
 use Rattle.ieee802154.specs.declared.addr.Eui64.{Eui64}
 use Rattle.ieee802154.specs.declared.addr.AddressField.{AddressField}
 use Rattle.iphc.specs.Context.{ofPrefix, listed}
-use Rattle.iphc.specs.Iphc.{orRefuse, behind}
+use Rattle.iphc.specs.Iphc.{orRefuse, behind, identifier, prefixOf, prefixed, elided}
 use Rattle.iphc.specs.declared.header.Parsed.{Parsed}
 use Rattle.iphc.specs.Answers.{ofParsed, ofContexts, ofTraffic, ofFront, ofIid, ofAddr, ofAddresses}
 use Rattle.sixlowpan.proofs.NextLaws.{on-next, no-next}
@@ -93,7 +94,20 @@ no-listed m p q = ap listed (sym (ap ofLong q) ∙ p)
 pub behind-told : (ctx : List ℕ) (ls ld : AddressField) (b d : Base) (s : List ℕ) (at : ℕ) (r : Read Repr) → b ≡ d → r ≡ behind ctx ls ld b s at → r ≡ behind ctx ls ld d s at
 behind-told ctx ls ld b d s at r h e = e ∙ ap (λ z. behind ctx ls ld z s at) h
 
-pub ruleset iphc-steps = (on-contexts, no-contexts, on-traffic, no-traffic, on-next, no-next, on-front, no-front, on-addr, no-addr, on-addresses, no-addresses, on-iid, no-iid, on-prefix, no-prefix, on-eui, no-eui, on-listed, no-listed, behind-told)
+-- an identifier that was read or refused, behind its prefix; and so an elided address
+pub on-identifier : {r : Read Ipv6Addr} {y : LongRead} {x : ℕ} {c : Cursor} (ctx : List ℕ) (ac id : ℕ) → y ≡ LongRead.Field x c → r ≡ andThen (prefixOf ctx ac id) (λ p. got (ip p x) (c .at)) → r ≡ prefixed ctx ac id (ofLong y)
+unfolding prefixed
+on-identifier ctx ac id q e = e ∙ ap (λ z. prefixed ctx ac id (ofLong z)) (sym q)
+
+pub no-identifier : {y : LongRead} {e : Refusal} (ctx : List ℕ) (ac id : ℕ) → y ≡ LongRead.Refused e → refused (numberOf e) ≡ prefixed ctx ac id (ofLong y)
+unfolding prefixed
+no-identifier ctx ac id q = ap (λ z. prefixed ctx ac id (ofLong z)) (sym q)
+
+pub elided-told : {r : Read Ipv6Addr} (y : LongRead) (ctx : List ℕ) (ac mode id : ℕ) (ll : AddressField) (s : List ℕ) (at : ℕ) → ofLong y ≡ identifier mode ll s at → r ≡ prefixed ctx ac id (ofLong y) → r ≡ elided ctx ac mode id ll s at
+unfolding elided prefixed
+elided-told y ctx ac mode id ll s at p e = e ∙ ap (prefixed ctx ac id) p
+
+pub ruleset iphc-steps = (on-contexts, no-contexts, on-traffic, no-traffic, on-next, no-next, on-front, no-front, on-addr, no-addr, on-addresses, no-addresses, on-iid, no-iid, on-prefix, no-prefix, on-eui, no-eui, on-listed, no-listed, behind-told, on-identifier, no-identifier, elided-told)
 
 -- ---- for callers
 pub on-iphc : {B : Type 0} {r : Answer B} {y : Parsed} {h : Repr} {c : Cursor} (m : Read Repr) (k : Placed Repr → Answer B) → ofParsed y ≡ m → y ≡ Parsed.Header h c → r ≡ k (record { value = h; next = c .at }) → r ≡ andThen m k

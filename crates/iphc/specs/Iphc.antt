@@ -167,6 +167,10 @@ full = do
 unfoldable pub prefixOf : List ℕ → ℕ → ℕ → Answer ℕ
 prefixOf ctx ac id = choose (eqb ac 0) (is linkLocal) (contextAt ctx id)
 
+-- an identifier that was read, behind its prefix
+unfoldable pub prefixed : List ℕ → ℕ → ℕ → Read ℕ → Read Ipv6Addr
+prefixed ctx ac id r = andThen r (λ i. andThen (prefixOf ctx ac id) (λ p. got (ip p (i .value)) (i .next)))
+
 -- an address whose prefix is elided: its identifier is settled first, and then its prefix
 unfoldable pub elided : List ℕ → ℕ → ℕ → ℕ → AddressField → Reader Ipv6Addr
 elided ctx ac mode id ll = do

@@ -16,6 +16,7 @@ use super::read::AddressesRead;
 use super::read::Base;
 use super::read::Front;
 use super::read::FrontRead;
+use super::read::LinkAddresses;
 use super::read::read_addresses;
 use super::read::read_base;
 use super::read::read_front;
@@ -49,11 +50,13 @@ pub enum Parsed {
 }
 
 impl Repr {
-    fn of(ll_src_addr: AddressField, ll_dst_addr: AddressField, f: Front, a: Addresses) -> Repr
-        ensures { λ r. ⌜ r ≡ reprOf «ll_src_addr» «ll_dst_addr» f a ⌝ }
+    fn of(ll: LinkAddresses, f: Front, a: Addresses) -> Repr
+        ensures { λ r. ⌜ r ≡ reprOf (ll .src) (ll .dst) f a ⌝ }
     {
         let src_addr = a.src;
+        let ll_src_addr = ll.src;
         let dst_addr = a.dst;
+        let ll_dst_addr = ll.dst;
         let next_header = f.next_header;
         let traffic = f.traffic;
         let ecn = traffic.ecn;
@@ -85,14 +88,13 @@ impl Repr {
             ≡ iphc (now (contexts .entry)) «ll_src_addr» «ll_dst_addr» (now (buf .entry)) (c .at) ⌝ }
     {
         match read_base(buf, c) {
-            WordRead::Field(v, d) => Repr::behind(
-                buf,
-                d,
-                Base::of(v),
-                ll_src_addr,
-                ll_dst_addr,
-                contexts,
-            ),
+            WordRead::Field(v, d) => {
+                let ll = LinkAddresses {
+                    src: ll_src_addr,
+                    dst: ll_dst_addr,
+                };
+                Repr::behind(buf, d, Base::of(v), ll, contexts)
+            }
             WordRead::Refused(e) => Parsed::Refused(e),
         }
     }
@@ -110,25 +112,14 @@ impl Repr {
     }
 
     // What follows the first two bytes.
-    fn behind(
-        buf: &[u8],
-        c: Cursor,
-        b: Base,
-        ll_src_addr: AddressField,
-        ll_dst_addr: AddressField,
-        contexts: &[u8],
-    ) -> Parsed
-        ensures { λ r. ⌜ ofParsed r
-            ≡ behind (now (contexts .entry)) «ll_src_addr» «ll_dst_addr» b (now (buf .entry)) (c .at) ⌝ }
+    fn behind(buf: &[u8], c: Cursor, b: Base, ll: LinkAddresses, contexts: &[u8]) -> Parsed
+        ensures { λ r. ⌜ ofParsed r ≡ behind (now (contexts .entry)) (ll .src) (ll .dst) b (now (buf .entry)) (c .at) ⌝ }
     {
         match read_front(buf, c, b) {
             FrontRead::Field(f, d) => {
                 let ids = f.contexts;
-                match read_addresses(buf, d, contexts, b, ids, ll_src_addr, ll_dst_addr) {
-                    AddressesRead::Field(a, e) => Parsed::Header(
-                        Repr::of(ll_src_addr, ll_dst_addr, f, a),
-                        e,
-                    ),
+                match read_addresses(buf, d, contexts, b, ids, ll) {
+                    AddressesRead::Field(a, e) => Parsed::Header(Repr::of(ll, f, a), e),
                     AddressesRead::Refused(e) => Parsed::Refused(e),
                 }
             }

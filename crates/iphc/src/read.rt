@@ -4,7 +4,7 @@ ghost use Rattle.octets.specs.Answers.{ofWord, ofByte, ofLong};
 ghost use Rattle.iphc.specs.Context.{ofPrefix};
 ghost use Rattle.iphc.specs.Iphc.{baseOf, base, contexts, labelled, classAndLabel, ecnAndLabel, classOnly};
 ghost use Rattle.iphc.specs.Iphc.{traffic};
-ghost use Rattle.iphc.specs.Iphc.{hopLimit, frontRest, front, linkIid, identifier, prefixOf, full, elided};
+ghost use Rattle.iphc.specs.Iphc.{hopLimit, frontRest, front, linkIid, identifier, prefixOf, prefixed, full};
 ghost use Rattle.iphc.specs.Iphc.{source, group48, group32, group8, multicast, destination, addresses};
 ghost use Rattle.iphc.specs.Answers.{ofContexts, ofTraffic, ofFront, ofIid, ofAddr, ofAddresses};
 use super::context::PrefixAnswer;
@@ -43,6 +43,12 @@ pub struct Base {
 pub struct Contexts {
     pub src: u8,
     pub dst: u8,
+}
+
+// The link-layer addresses of the frame.
+pub struct LinkAddresses {
+    pub src: AddressField,
+    pub dst: AddressField,
 }
 
 // Traffic class and flow label.
@@ -346,19 +352,11 @@ fn prefix_of(contexts: &[u8], ac: u8, id: u8) -> PrefixAnswer
     }
 }
 
-// An address whose prefix is elided. Its identifier is settled first: 6 or 1 comes before 5.
-fn read_elided(
-    buf: &[u8],
-    c: Cursor,
-    contexts: &[u8],
-    ac: u8,
-    mode: u8,
-    id: u8,
-    ll: AddressField,
-) -> AddrRead
-    ensures { λ r. ⌜ ofAddr r ≡ elided (now (contexts .entry)) ac mode id ll (now (buf .entry)) (c .at) ⌝ }
+// An address whose prefix is elided. Its identifier was read first: 6 or 1 comes before 5.
+fn with_prefix(i: LongRead, contexts: &[u8], ac: u8, id: u8) -> AddrRead
+    ensures { λ r. ⌜ ofAddr r ≡ prefixed (now (contexts .entry)) ac id (ofLong i) ⌝ }
 {
-    match read_identifier(buf, c, mode, ll) {
+    match i {
         LongRead::Field(iid, d) => match prefix_of(contexts, ac, id) {
             PrefixAnswer::Is(prefix) => AddrRead::Field(Ipv6Addr { prefix, iid }, d),
             PrefixAnswer::Refused(e) => AddrRead::Refused(e),
@@ -371,20 +369,21 @@ fn read_source(
     buf: &[u8],
     c: Cursor,
     contexts: &[u8],
-    sac: u8,
-    sam: u8,
+    b: Base,
     id: u8,
     ll: AddressField,
 ) -> AddrRead
-    ensures { λ r. ⌜ ofAddr r ≡ source (now (contexts .entry)) sac sam id ll (now (buf .entry)) (c .at) ⌝ }
+    ensures { λ r. ⌜ ofAddr r
+        ≡ source (now (contexts .entry)) (b .sac) (b .sam) id ll (now (buf .entry)) (c .at) ⌝ }
 {
-    if sam == 0b00 {
-        if sac == 0 {
+    if b.sam == 0b00 {
+        if b.sac == 0 {
             return read_full(buf, c);
         }
         return AddrRead::Field(Ipv6Addr::UNSPECIFIED, c);
     }
-    read_elided(buf, c, contexts, sac, sam, id, ll)
+    let i = read_identifier(buf, c, b.sam, ll);
+    with_prefix(i, contexts, b.sac, id)
 }
 
 // A group ffXX::00XX:XXXX:XXXX.
@@ -472,7 +471,8 @@ fn read_destination(
             }
             return AddrRead::Refused(Refusal::Unsupported);
         }
-        return read_elided(buf, c, contexts, b.dac, dam, id, ll);
+        let i = read_identifier(buf, c, dam, ll);
+        return with_prefix(i, contexts, b.dac, id);
     }
     if b.dac == 0 {
         return read_multicast(buf, c, dam);
@@ -486,13 +486,14 @@ pub fn read_addresses(
     contexts: &[u8],
     b: Base,
     ids: Contexts,
-    ll_src: AddressField,
-    ll_dst: AddressField,
+    ll: LinkAddresses,
 ) -> AddressesRead
     ensures { λ r. ⌜ ofAddresses r
-        ≡ addresses (now (contexts .entry)) b ids «ll_src» «ll_dst» (now (buf .entry)) (c .at) ⌝ }
+        ≡ addresses (now (contexts .entry)) b ids (ll .src) (ll .dst) (now (buf .entry)) (c .at) ⌝ }
 {
-    match read_source(buf, c, contexts, b.sac, b.sam, ids.src, ll_src) {
+    let ll_src = ll.src;
+    let ll_dst = ll.dst;
+    match read_source(buf, c, contexts, b, ids.src, ll_src) {
         AddrRead::Field(src, d) => match read_destination(buf, d, contexts, b, ids.dst, ll_dst) {
             AddrRead::Field(dst, e) => AddressesRead::Field(Addresses { src, dst }, e),
             AddrRead::Refused(e) => AddressesRead::Refused(e),

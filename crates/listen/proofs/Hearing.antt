@@ -101,9 +101,6 @@ gone s k x₀ x p₀ p g h =
     (sym (ap (afterFrames x) e) ∙ g .after, sym (ap (λ q. putLines (saidOfAll x q) p) e) ∙ g .said)
 
 -- ---- a block
-pub count-told : (j : Judged) (b : ℕ) (s : List ℕ) (n : ℕ) → ofJudged j ≡ judged b s → j ≡ Judged.Good n → n ≡ countOf s
-count-told j b s n p q = told-good j b s p n q .1
-
 -- the frames heard, the next block is due
 pub heard-good : (x : Listener) (s : List ℕ) (j : Judged) (n : ℕ) (r : Heard) (m o was room : List ℕ) (at b : ℕ) → ofJudged j ≡ judged (x .ear .block) s → j ≡ Judged.Good n
     → Hears r m o was room at (record { after = afterFrames x (framesOf s); said = saidOfAll x (framesOf s); more = true }) → b ≡ next (r .ear .block)

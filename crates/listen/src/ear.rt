@@ -2,12 +2,12 @@
 ghost use mathlib.Core.Path.{_≡_};
 ghost use Prim.Native.Nat.{_-_};
 ghost use lib.ListN.{take, drop};
-ghost use Rattle.capture.specs.Block.{countOf};
 ghost use Rattle.listen.specs.Heard.{listedAs, starting, hearFrames, hearBlock, hearAll, Hears};
 use super::line::put_bad;
 use super::line::put_frame;
 use capture::block::BLOCK;
 use capture::block::Judged;
+use capture::block::count;
 use capture::block::frame;
 use capture::block::judge;
 use capture::block::time;
@@ -62,20 +62,19 @@ impl Ear {
     }
 }
 
-// The first n frames of a block, one after the other.
+// The frames of a block, one after the other.
 fn hear_frames(
     ear: Ear,
     block: &[u8],
-    n: usize,
     mem: &mut [u8],
     out: &mut [u8],
     text: &mut [u8],
     at: usize,
 ) -> Heard
-    requires { ⌜ n ≡ countOf (now block) ⌝ }
     ensures { λ r. ⌜ Hears r (now (mem .exit)) (now (out .exit)) (now (text .entry)) (now (text .exit)) at
         (hearFrames (record { ear = ear; mem = now (mem .entry); out = now (out .entry) }) (now (block .entry))) ⌝ }
 {
+    let n = count(block);
     let mut e = ear;
     let mut to = at;
     let mut k: usize = 0;
@@ -118,8 +117,8 @@ pub fn hear(
         (hearBlock (record { ear = ear; mem = now (mem .entry); out = now (out .entry) }) (now (block .entry))) ⌝ }
 {
     match judge(block, ear.block) {
-        Judged::Good(n) => {
-            let h = hear_frames(ear, block, n, mem, out, text, at);
+        Judged::Good(_) => {
+            let h = hear_frames(ear, block, mem, out, text, at);
             let mut e = h.ear;
             e.block = wrapping_add_u64(e.block, 1);
             Heard {

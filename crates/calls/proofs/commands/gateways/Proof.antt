@@ -6,10 +6,10 @@ use Rattle.calls.proofs.commands.gateways.Statement.{statement}
 use Rattle.calls.proofs.commands.gateways.Tie as tie
 
 abbrev Inv-loop : tie.InvT-loop
-Inv-loop line from session out to all₀ count₀ next₀ t15 all count next = length all ≡ 4
+Inv-loop line from session out all₀ count₀ next₀ t15 all count next = length all ≡ 4
 
 abbrev μ-loop : tie.MeasureT-loop
-μ-loop line from session out to all₀ count₀ next₀ t15 all count next = length line + 1 - count
+μ-loop line from session out all₀ count₀ next₀ t15 all count next = length line + 1 - count
 
 loop-holds : tie.Need-loop-holds Inv-loop μ-loop
 loop-holds c = search needs
@@ -71,6 +71,9 @@ enum-known-answer c = search needs
 refused-requires : tie.Need-refused-requires Inv-loop μ-loop
 refused-requires c κs = search needs
 
+moved-to-requires : tie.Need-moved-to-requires Inv-loop μ-loop
+moved-to-requires c κs = search needs
+
 same-length-3 : tie.Need-same-length-3 Inv-loop μ-loop
 same-length-3 c = search needs
 
@@ -109,6 +112,7 @@ gateways-spec =
     text-requires
     enum-known-answer
     refused-requires
+    moved-to-requires
     same-length-3
     returns-3
     same-length-4

@@ -1,4 +1,5 @@
 use Rattle.octets.proofs.Steps.{steps}
+use Rattle.iphc.proofs.Steps.{iphc-steps}
 use Rattle.iphc.specs.Iphc.{destination}
 use borrow.Author.Needs.{needs}
 use Rattle.iphc.proofs.read.read_destination.Statement.{statement}
@@ -15,12 +16,15 @@ returns-2 : tie.Need-returns-2
 unfolding destination
 returns-2 c = search steps
 
-read-elided-requires : tie.Need-read-elided-requires
-read-elided-requires c κs = search needs
+read-identifier-requires : tie.Need-read-identifier-requires
+read-identifier-requires c κs = search needs
+
+with-prefix-requires : tie.Need-with-prefix-requires
+with-prefix-requires c κs = search needs
 
 returns-3 : tie.Need-returns-3
 unfolding destination
-returns-3 c = search steps
+returns-3 c = search (steps, iphc-steps)
 
 read-multicast-requires : tie.Need-read-multicast-requires
 read-multicast-requires c κs = search needs
@@ -40,7 +44,8 @@ read-destination-spec =
     read-full-requires
     returns
     returns-2
-    read-elided-requires
+    read-identifier-requires
+    with-prefix-requires
     returns-3
     read-multicast-requires
     returns-4

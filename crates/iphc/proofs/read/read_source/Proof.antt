@@ -1,4 +1,5 @@
 use Rattle.octets.proofs.Steps.{steps}
+use Rattle.iphc.proofs.Steps.{iphc-steps}
 use Rattle.iphc.specs.Iphc.{source}
 use borrow.Author.Needs.{needs}
 use Rattle.iphc.proofs.read.read_source.Statement.{statement}
@@ -15,13 +16,16 @@ returns-2 : tie.Need-returns-2
 unfolding source
 returns-2 c = search steps
 
-read-elided-requires : tie.Need-read-elided-requires
-read-elided-requires c κs = search needs
+read-identifier-requires : tie.Need-read-identifier-requires
+read-identifier-requires c κs = search needs
+
+with-prefix-requires : tie.Need-with-prefix-requires
+with-prefix-requires c κs = search needs
 
 returns-3 : tie.Need-returns-3
 unfolding source
-returns-3 c = search steps
+returns-3 c = search (steps, iphc-steps)
 
 pub read-source-spec : {M : Type 1} → statement M
 read-source-spec =
-    tie.close (tie.spec read-full-requires returns returns-2 read-elided-requires returns-3)
+    tie.close (tie.spec read-full-requires returns returns-2 read-identifier-requires with-prefix-requires returns-3)

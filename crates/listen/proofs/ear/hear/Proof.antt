@@ -1,4 +1,4 @@
-use Rattle.listen.proofs.Hearing.{listener, count-told, heard-good, heard-bad}
+use Rattle.listen.proofs.Hearing.{listener, heard-good, heard-bad}
 use borrow.Author.Needs.{needs}
 use Rattle.listen.proofs.ear.hear.Statement.{statement}
 use Rattle.listen.proofs.ear.hear.Tie as tie
@@ -6,17 +6,17 @@ use Rattle.listen.proofs.ear.hear.Tie as tie
 judge-requires : tie.Need-judge-requires
 judge-requires c κs = search needs
 
-enum-known-n : tie.Need-enum-known-n
-enum-known-n c = search needs
+enum-told : tie.Need-enum-told
+enum-told c = search needs
 
 hear-frames-requires : tie.Need-hear-frames-requires
-hear-frames-requires c κs = search (count-told) depth 8
+hear-frames-requires c κs = search needs
 
 wrapping-add-u64-requires : tie.Need-wrapping-add-u64-requires
 wrapping-add-u64-requires c κs = search needs
 
-enum-told : tie.Need-enum-told
-enum-told c = search needs
+enum-told-2 : tie.Need-enum-told-2
+enum-told-2 c = search needs
 
 put-bad-requires : tie.Need-put-bad-requires
 put-bad-requires c κs = search needs
@@ -37,17 +37,17 @@ same-length-4 : tie.Need-same-length-4
 same-length-4 c = search needs
 
 returns-2 : tie.Need-returns-2
-returns-2 c = let a = c .before .before .before .before .before .before .before .before .before .before .before .args in heard-bad (listener (a .ear) (a .mem .now) (a .out .now)) (a .block .now) (c .before .before .before .before .before .before .judge .result) _ _ _ _ _ (c .before .before .before .before .before .before .judge .ensures) (c .before .before .before .before .enum-told .given .1) (c .before .before .put-bad .ensures)
+returns-2 c = let a = c .before .before .before .before .before .before .before .before .before .before .before .args in heard-bad (listener (a .ear) (a .mem .now) (a .out .now)) (a .block .now) (c .before .before .before .before .before .before .judge .result) _ _ _ _ _ (c .before .before .before .before .before .before .judge .ensures) (c .before .before .before .before .enum-told2 .given .1) (c .before .before .put-bad .ensures)
 
 pub hear-spec : {M : Type 1} → statement M
 hear-spec =
     tie.close
     (tie.spec
     judge-requires
-    enum-known-n
+    enum-told
     hear-frames-requires
     wrapping-add-u64-requires
-    enum-told
+    enum-told-2
     put-bad-requires
     same-length
     same-length-2

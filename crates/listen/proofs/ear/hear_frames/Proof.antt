@@ -10,10 +10,13 @@ use Rattle.listen.proofs.ear.hear_frames.Statement.{statement}
 use Rattle.listen.proofs.ear.hear_frames.Tie as tie
 
 abbrev Inv-loop : tie.InvT-loop
-Inv-loop block n mem₀ out₀ text₀ at e₀ to₀ k₀ mem out text e to k = (k ≤ n) × (length mem ≡ length mem₀) × (length out ≡ length out₀) × (length text ≡ length text₀) × Going block k (listener e₀ mem₀ out₀) (listener e mem out) (page text₀ at) (page text to)
+Inv-loop block mem₀ out₀ text₀ at n e₀ to₀ k₀ mem out text e to k = (k ≤ n) × (length mem ≡ length mem₀) × (length out ≡ length out₀) × (length text ≡ length text₀) × Going block k (listener e₀ mem₀ out₀) (listener e mem out) (page text₀ at) (page text to)
 
 abbrev μ-loop : tie.MeasureT-loop
-μ-loop block n mem₀ out₀ text₀ at e₀ to₀ k₀ mem out text e to k = n - k
+μ-loop block mem₀ out₀ text₀ at n e₀ to₀ k₀ mem out text e to k = n - k
+
+count-requires : tie.Need-count-requires Inv-loop μ-loop
+count-requires c κs = search needs
 
 loop-holds : tie.Need-loop-holds Inv-loop μ-loop
 loop-holds c = (search needs, refl, refl, refl, going _ _ _)
@@ -47,20 +50,20 @@ put-frame-requires c κs = search needs
 
 add-k : tie.Need-add-k Inv-loop μ-loop
 add-k c = let l = c .before .before .before .before .before .before .before .before .before .before .before .before .before .before .before .before .before .before .loop in
-    let h : l .k < 3 = omega (arith, c .before .before .before .before .before .before .before .before .before .before .before .before .before .before .before .before .before .before .before .before .before .before .before .pre, c .before .before .before .before .before .before .before .before .before .before .before .before .before .before .before .before .before .loop-test .taken, count-small (c .before .before .before .before .before .before .before .before .before .before .before .before .before .before .before .before .before .before .before .before .before .before .before .args .block .now)) in
+    let h : l .k < 3 = omega (arith, c .before .before .before .before .before .before .before .before .before .before .before .before .before .before .before .before .before .before .before .count .ensures, c .before .before .before .before .before .before .before .before .before .before .before .before .before .before .before .before .before .loop-test .taken, count-small (c .before .before .before .before .before .before .before .before .before .before .before .before .before .before .before .before .before .before .before .before .before .before .before .before .args .block .now)) in
     search needs
 
 loop-less : tie.Need-loop-less Inv-loop μ-loop
 loop-less c = search needs
 
 loop-again : tie.Need-loop-again Inv-loop μ-loop
-loop-again c = let a = c .before .before .before .before .before .before .before .before .before .before .before .before .before .before .before .before .before .before .before .before .before .before .before .args in
+loop-again c = let a = c .before .before .before .before .before .before .before .before .before .before .before .before .before .before .before .before .before .before .before .before .before .before .before .before .args in
     let l = c .before .before .before .before .before .before .before .before .before .before .before .before .before .before .before .before .before .before .loop in (
       search needs,
       search needs,
       search needs,
       search needs,
-      turn (a .block .now) (l .k) _ (l .e) (l .mem) (l .out) _ (l .text) (l .to) (c .before .before .before .before .before .before .before .before .before .before .receive .result) _ _ _ _ _ _ _ (l .inv .4) (omega (arith, c .before .before .before .before .before .before .before .before .before .before .before .before .before .before .before .before .before .before .before .before .before .before .before .pre, c .before .before .before .before .before .before .before .before .before .before .before .before .before .before .before .before .before .loop-test .taken)) (c .before .before .before .before .before .before .before .before .before .before .before .before .before .before .before .time .ensures) (c .before .before .before .before .before .before .before .before .before .before .before .before .before .before .frame .ensures) (c .before .before .before .before .before .before .before .before .before .before .receive .ensures) (c .before .before .before .before .wrapping-add-u64 .ensures) (c .before .before .put-frame .ensures),
+      turn (a .block .now) (l .k) _ (l .e) (l .mem) (l .out) _ (l .text) (l .to) (c .before .before .before .before .before .before .before .before .before .before .receive .result) _ _ _ _ _ _ _ (l .inv .4) (omega (arith, c .before .before .before .before .before .before .before .before .before .before .before .before .before .before .before .before .before .before .before .count .ensures, c .before .before .before .before .before .before .before .before .before .before .before .before .before .before .before .before .before .loop-test .taken)) (c .before .before .before .before .before .before .before .before .before .before .before .before .before .before .before .time .ensures) (c .before .before .before .before .before .before .before .before .before .before .before .before .before .before .frame .ensures) (c .before .before .before .before .before .before .before .before .before .before .receive .ensures) (c .before .before .before .before .wrapping-add-u64 .ensures) (c .before .before .put-frame .ensures),
     )
 
 same-length : tie.Need-same-length Inv-loop μ-loop
@@ -73,9 +76,9 @@ same-length-3 : tie.Need-same-length-3 Inv-loop μ-loop
 same-length-3 c = search needs
 
 returns : tie.Need-returns Inv-loop μ-loop
-returns c = let a = c .before .before .before .before .before .before .args in
+returns c = let a = c .before .before .before .before .before .before .before .args in
     let l = c .before .loop in
-    let d = gone (a .block .now) (l .k) _ _ _ _ (l .inv .4) (omega (arith, c .before .before .before .before .before .before .pre, c .loop-test .left)) in
+    let d = gone (a .block .now) (l .k) _ _ _ _ (l .inv .4) (omega (arith, c .before .before .count .ensures, c .loop-test .left)) in
     record { ear = ap (λ x. x .ear) (d .0); memory = ap (λ x. x .mem) (d .0); output = ap (λ x. x .out) (d .0); more = refl; text = d .1 }
 
 pub hear-frames-spec : {M : Type 1} → statement M
@@ -84,6 +87,7 @@ hear-frames-spec =
     (tie.spec
     Inv-loop
     μ-loop
+    count-requires
     loop-holds
     time-requires
     cast-receive
