@@ -1,0 +1,6 @@
+pub mod Each
+pub mod Numbers
+pub mod Keys
+pub mod Stores
+pub mod Ages
+pub mod Loops

@@ -1,0 +1,40 @@
+use Prim.Native.Nat.{ℕ, _≤_, _<_, _+_, _-_}
+use native.Mathlib.Omega.{arith}
+use mathlib.Core.Path.{_≡_}
+use lib.ListN.{getD}
+use Rattle.words.proofs.Numbers.{table-clear}
+use borrow.Author.Needs.{needs}
+use Rattle.words.proofs.write.clear.Statement.{statement}
+use Rattle.words.proofs.write.clear.Tie as tie
+
+abbrev Inv-loop : tie.InvT-loop
+Inv-loop t₀ k₀ t k = (k ≤ 149) × ((j : ℕ) → j < k → getD t j 0 ≡ 0)
+
+abbrev μ-loop : tie.MeasureT-loop
+μ-loop t₀ k₀ t k = 149 - k
+
+loop-holds : tie.Need-loop-holds Inv-loop μ-loop
+loop-holds c = (search needs, λ j b. absurd (omega arith))
+
+mul-t : tie.Need-mul-t Inv-loop μ-loop
+mul-t c = search needs
+
+element-write-t : tie.Need-element-write-t Inv-loop μ-loop
+element-write-t c = search needs
+
+add-k : tie.Need-add-k Inv-loop μ-loop
+add-k c = search needs
+
+loop-less : tie.Need-loop-less Inv-loop μ-loop
+loop-less c = search needs
+
+loop-again : tie.Need-loop-again Inv-loop μ-loop
+loop-again c = (search needs, let g = c .before .loop in ?)
+
+returns : tie.Need-returns Inv-loop μ-loop
+returns c = table-clear (c .before .loop .t) (λ j b. c .before .loop .inv .1 j (omega arith))
+
+pub clear-spec : {M : Type 1} → statement M
+clear-spec =
+    tie.close
+    (tie.spec Inv-loop μ-loop loop-holds mul-t element-write-t add-k loop-less loop-again returns)
