@@ -7,8 +7,7 @@ use mathlib.Core.List.{List, [], _∷_}
 use lib.ListN.{length, getD, set}
 use lib.Seq.{set-getD}
 use lib.Dec.{eqb, leb}
-use borrow.Author.Tests.{eq-eqb, ne-eqb}
-use Rattle.octets.specs.Read.{choose}
+use borrow.Author.Tests.{ne-eqb}
 use Rattle.octets.specs.Write.{put}
 use Rattle.reassembly.specs.Slots.{freeSlot, expired, expire1, expire}
 use Rattle.reassembly.specs.Table.{withSlots}

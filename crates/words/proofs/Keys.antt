@@ -1,7 +1,7 @@
 -- A slot's tests, made where its numbers lie.
-use Prim.Native.Nat.{ℕ, _+_, _*_, _/_, _%_, _≤_, _<_}
+use Prim.Native.Nat.{ℕ, _+_, _*_, _/_, _%_, _<_}
 use native.Mathlib.Omega.{arith}
-use mathlib.Core.Path.{_≡_, refl, sym, ap, _∙_}
+use mathlib.Core.Path.{_≡_, refl, sym, _∙_}
 use mathlib.Core.Bool.{Bool, true, false, not, _&&_}
 use mathlib.Core.List.{List}
 use lib.ListN.{getD}
@@ -46,9 +46,9 @@ module _ (ws : List ℕ) (i : ℕ) (h : i < 8) where
     key-other o =
         let w = getD ws (i * 17 + 5) 0 in
         let n : (eqb (w % 65536) (k .size) && eqb (w / 65536 % 65536) (k .tag)) ≡ false =
-            by-test (eqb (w % 65536) (k .size) && eqb (w / 65536 % 65536) (k .tag))
-            (λ e. absurd (o (low-two w (k .size) (k .tag) (eqb-true _ _ (and-left _ _ e)) (eqb-true _ _ (and-right (eqb (w % 65536) (k .size)) _ e)))))
-            (λ e. e) in
+        by-test (eqb (w % 65536) (k .size) && eqb (w / 65536 % 65536) (k .tag))
+        (λ e. absurd (o (low-two w (k .size) (k .tag) (eqb-true _ _ (and-left _ _ e)) (eqb-true _ _ (and-right (eqb (w % 65536) (k .size)) _ e)))))
+        (λ e. e) in
         sym (key-is ∙ rw (n, and-none (sameNode (nodeIn ws (i * 17 + 3)) (k .dst)), and-none (sameSource (sourceIn ws (i * 17)) (k .src)), and-none (eqb (getD ws (i * 17 + 15) 0) 1)) refl)
 
     pub key-free : (getD ws (i * 17 + 15) 0 ≡ 1 → ⊥) → false ≡ isKey k (getD (tableIn ws .slots) i freeSlot)

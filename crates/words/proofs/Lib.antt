@@ -4,3 +4,4 @@ pub mod Keys
 pub mod Stores
 pub mod Ages
 pub mod Loops
+pub mod Gates

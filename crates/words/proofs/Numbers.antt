@@ -1,12 +1,11 @@
 -- The table that the numbers are: what stands at a place, and the table after a run of stores.
-use Prim.Native.Nat.{ℕ, zero, suc, _+_, _*_, _-_, _/_, _%_, _≤_, _<_}
+use Prim.Native.Nat.{ℕ, _+_, _*_, _-_, _/_, _%_, _≤_, _<_}
 use native.Mathlib.Nat.{add-zero, zero-add}
 use native.Mathlib.Omega.{arith}
 use mathlib.Core.Path.{_≡_, refl, sym, ap, ap₂, _∙_}
-use mathlib.Core.List.{List, [], _∷_, _++_}
-use lib.ListN.{length, getD, set, replicate, length-replicate, getD-replicate}
-use lib.Seq.{set-out}
-use lib.Dec.{eqb}
+use mathlib.Core.List.{List, [], _∷_}
+use lib.ListN.{length, getD, set, replicate, getD-replicate}
+use lib.Seq.{set-out, getD-set-same, getD-set-other}
 use Rattle.octets.specs.Write.{put}
 use Rattle.reassembly.specs.Slots.{noNode, noSource, noKey, freeSlot}
 use Rattle.reassembly.specs.Table.{withSlots}
@@ -18,7 +17,7 @@ use Rattle.reassembly.specs.declared.slot.Slot.{Slot}
 use Rattle.reassembly.specs.declared.table.Table.{Table}
 use Rattle.reassembly.proofs.Tests.{by-order}
 use Rattle.reassembly.proofs.Lists.{put-sets, getD-sets-before, getD-sets-after, getD-sets-in}
-use Rattle.words.specs.Words.{each, nodeIn, sourceIn, fourIn, keyOf, sumOf, slotIn, slotsIn, seatsIn, tableIn, withSlot, withSeat, sourceWords, packed, headWords, tailWords, slotWords}
+use Rattle.words.specs.Words.{nodeIn, sourceIn, fourIn, keyOf, sumOf, slotIn, slotsIn, seatsIn, tableIn, withSlot, withSeat, sourceWords, packed, headWords, tailWords, slotWords}
 use Rattle.words.proofs.Each.{length-each, getD-each, each-is, each-same, each-set}
 
 -- ---- two places whose next n numbers are the same
@@ -75,7 +74,7 @@ unfolding slotIn nodeIn
 slot-read ws k src key c s m e f g h q =
     let z : k + 4 ≡ k + 3 + 1 = omega arith in
     let n : key ≡ keyOf (sourceIn ws k) (record { kind = getD ws (k + 3) 0; number = getD ws (k + 3 + 1) 0 }) (getD ws (k + 5) 0) =
-        f ∙ (λ i. keyOf (e i) (record { kind = getD ws (k + 3) 0; number = getD ws (z i) 0 }) (getD ws (k + 5) 0)) in
+    f ∙ (λ i. keyOf (e i) (record { kind = getD ws (k + 3) 0; number = getD ws (z i) 0 }) (getD ws (k + 5) 0)) in
     λ i. record { key = n i; since = getD ws (k + 6) 0; covered = g i; starts = h i; live = getD ws (k + 15) 0; sum = q i }
 
 -- ---- the table
@@ -138,7 +137,7 @@ module _ (ws : List ℕ) (all : length ws ≡ 149) (vs : List ℕ) where
     unfolding tableIn slotsIn seatsIn withSlot
     table-slot =
         let s = sym (each-set 8 i (slotIn vs 0) (λ j. slotIn ws (j * 17)) (λ j. slotIn (put (i * 17) vs ws) (j * 17)) h
-            (sym (slot-same (put (i * 17) vs ws) vs (i * 17) 0 (put-in (i * 17) vs ws room 17 n))) other-slot) in
+        (sym (slot-same (put (i * 17) vs ws) vs (i * 17) 0 (put-in (i * 17) vs ws room 17 n))) other-slot) in
         let l = put-after (i * 17) vs ws room 136 (omega arith) in
         let g = each-same noSource 4 (λ j. sourceIn (put (i * 17) vs ws) (137 + j * 3)) (λ j. sourceIn ws (137 + j * 3)) other-seat in
         λ x. record { slots = s x; last = l x; gateways = g x }
@@ -164,7 +163,7 @@ module _ (ws : List ℕ) (all : length ws ≡ 149) (vs : List ℕ) where
         let s = each-same freeSlot 8 (λ j. slotIn (put (137 + i * 3) vs ws) (j * 17)) (λ j. slotIn ws (j * 17)) same-slot in
         let l = put-before (137 + i * 3) vs ws place 136 (omega arith) in
         let g = sym (each-set 4 i (sourceIn vs 0) (λ j. sourceIn ws (137 + j * 3)) (λ j. sourceIn (put (137 + i * 3) vs ws) (137 + j * 3)) h
-            (sym (source-same (put (137 + i * 3) vs ws) vs (137 + i * 3) 0 (put-in (137 + i * 3) vs ws place 3 n))) seat-beside) in
+        (sym (source-same (put (137 + i * 3) vs ws) vs (137 + i * 3) 0 (put-in (137 + i * 3) vs ws place 3 n))) seat-beside) in
         λ x. record { slots = s x; last = l x; gateways = g x }
 
   -- the last time
@@ -176,10 +175,10 @@ module _ (ws : List ℕ) (all : length ws ≡ 149) (vs : List ℕ) where
     unfolding tableIn slotsIn seatsIn withSlots
     table-last =
         let s = each-same freeSlot 8 (λ j. slotIn (put 136 vs ws) (j * 17)) (λ j. slotIn ws (j * 17))
-            (λ j k. slot-same (put 136 vs ws) ws (j * 17) (j * 17) (λ d b. put-before 136 vs ws time-place (j * 17 + d) (omega arith))) in
+        (λ j k. slot-same (put 136 vs ws) ws (j * 17) (j * 17) (λ d b. put-before 136 vs ws time-place (j * 17 + d) (omega arith))) in
         let l : getD (put 136 vs ws) 136 0 ≡ getD vs 0 0 = put-in 136 vs ws time-place 1 n 0 (omega arith) in
         let g = each-same noSource 4 (λ j. sourceIn (put 136 vs ws) (137 + j * 3)) (λ j. sourceIn ws (137 + j * 3))
-            (λ j k. source-same (put 136 vs ws) ws (137 + j * 3) (137 + j * 3) (λ d b. put-after 136 vs ws time-place (137 + j * 3 + d) (omega arith))) in
+        (λ j k. source-same (put 136 vs ws) ws (137 + j * 3) (137 + j * 3) (λ d b. put-after 136 vs ws time-place (137 + j * 3 + d) (omega arith))) in
         λ x. record { slots = s x; last = l x; gateways = g x }
 
 pub no-slot : (ws : List ℕ) (i : ℕ) (s : Slot) → 8 ≤ i → tableIn ws ≡ withSlot (tableIn ws) i s
@@ -201,11 +200,32 @@ pub table-clear : (ws : List ℕ) → ((k : ℕ) → k < 149 → getD ws k 0 ≡
 unfolding tableIn slotsIn seatsIn
 table-clear ws z =
     let s = sym (each-is freeSlot (replicate 8 freeSlot) 8 (λ j. slotIn ws (j * 17)) refl
-        (λ j k. getD-replicate 8 j freeSlot freeSlot k ∙ sym (slot-same ws [] (j * 17) 0 (λ d b. z (j * 17 + d) (omega arith)) ∙ zero-slot))) in
+    (λ j k. getD-replicate 8 j freeSlot freeSlot k ∙ sym (slot-same ws [] (j * 17) 0 (λ d b. z (j * 17 + d) (omega arith)) ∙ zero-slot))) in
     let l = z 136 (omega arith) in
     let g = sym (each-is noSource (replicate 4 noSource) 4 (λ j. sourceIn ws (137 + j * 3)) refl
-        (λ j k. getD-replicate 4 j noSource noSource k ∙ sym (source-same ws [] (137 + j * 3) 0 (λ d b. z (137 + j * 3 + d) (omega arith)) ∙ zero-source))) in
+    (λ j k. getD-replicate 4 j noSource noSource k ∙ sym (source-same ws [] (137 + j * 3) 0 (λ d b. z (137 + j * 3 + d) (omega arith)) ∙ zero-source))) in
     λ x. record { slots = s x; last = l x; gateways = g x }
+
+-- one number more that is 0
+pub zero-more : (ws us : List ℕ) (k : ℕ) → length ws ≡ 149 → k < 149 → us ≡ set ws k 0 → ((j : ℕ) → j < k → getD ws j 0 ≡ 0)
+    → (j : ℕ) → j < k + 1 → getD us j 0 ≡ 0
+zero-more ws us k n h e z j b = ap (λ l. getD l j 0) e ∙ by-order k j
+    (λ l. let q : j ≡ k = omega arith in rw q (getD-set-same ws k 0 0 (omega arith)))
+    (λ l. getD-set-other ws k j 0 0 (λ q. omega arith) ∙ z j l)
+
+-- four seats, stored one after the other in a table that has none
+pub table-begun : (l : List Source) → length l ≡ 4 → (a b c d e : Table)
+    → a ≡ record { slots = replicate 8 freeSlot; last = 0; gateways = replicate 4 noSource }
+    → b ≡ withSeat a 0 (getD l 0 noSource) → c ≡ withSeat b 1 (getD l 1 noSource) → d ≡ withSeat c 2 (getD l 2 noSource) → e ≡ withSeat d 3 (getD l 3 noSource)
+    → e ≡ record { slots = replicate 8 freeSlot; last = 0; gateways = l }
+unfolding withSeat
+table-begun [] n a b c d e p q r s t = absurd (omega arith)
+table-begun (u ∷ []) n a b c d e p q r s t = absurd (omega arith)
+table-begun (u ∷ v ∷ []) n a b c d e p q r s t = absurd (omega arith)
+table-begun (u ∷ v ∷ w ∷ []) n a b c d e p q r s t = absurd (omega arith)
+table-begun (u ∷ v ∷ w ∷ x ∷ []) n a b c d e p q r s t =
+    t ∙ ap (λ z. withSeat z 3 x) (s ∙ ap (λ z. withSeat z 2 w) (r ∙ ap (λ z. withSeat z 1 v) (q ∙ ap (λ z. withSeat z 0 u) p)))
+table-begun (u ∷ v ∷ w ∷ x ∷ y ∷ l) n a b c d e p q r s t = absurd (omega arith)
 
 -- ---- the numbers of a slot say the slot
 
@@ -261,6 +281,10 @@ slot-back s h =
       live = s .live;
       sum = record { kind = s .sum .kind; ip = c i; udp = d i };
     }
+
+pub slot-words : (s : Slot) → length (slotWords s) ≡ 17
+unfolding slotWords sourceWords headWords tailWords fourIn
+slot-words s = refl
 
 pub source-back : (s : Source) → sourceIn (sourceWords s) 0 ≡ s
 unfolding sourceIn nodeIn sourceWords

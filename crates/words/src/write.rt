@@ -1,7 +1,7 @@
 // The numbers changed.
 ghost use mathlib.Core.Path.{_≡_};
 ghost use Prim.Native.Nat.{_+_, _*_, _<_, _≤_};
-ghost use lib.ListN.{getD, replicate};
+ghost use lib.ListN.{length, getD, set, replicate};
 ghost use Rattle.octets.specs.Write.{put};
 ghost use Rattle.reassembly.specs.Slots.{freeSlot, noSource, expire, expire1};
 ghost use Rattle.reassembly.specs.Table.{withSlots};
@@ -15,12 +15,29 @@ use reassembly::Source;
 use reassembly::slot::is_expired;
 use reassembly::table::SLOTS;
 
+// How many numbers a slice has.
+fn count_words(t: &[u64]) -> usize
+    ensures { λ r. ⌜ r ≡ length (now (t .entry)) ⌝ }
+{
+    t.len()
+}
+
+// The proof knows the length of an array behind a reference only where the array is lent as a slice: what stores
+// numbers goes through here, and learns it. No code is left of the count.
+fn put_word(t: &mut [u64; 149], k: usize, v: u64)
+    requires { ⌜ k < 149 ⌝ }
+    ensures { λ _. ⌜ (length (now (t .entry)) ≡ 149) × (now (t .exit) ≡ set (now (t .entry)) k v) ⌝ }
+{
+    count_words(t);
+    t[k] = v;
+}
+
 fn put_source(t: &mut [u64; 149], k: usize, s: Source)
     requires { ⌜ k + 3 ≤ 149 ⌝ }
-    ensures { λ _. ⌜ now (t .exit) ≡ put k (sourceWords s) (now (t .entry)) ⌝ }
+    ensures { λ _. ⌜ (length (now (t .entry)) ≡ 149) × (now (t .exit) ≡ put k (sourceWords s) (now (t .entry))) ⌝ }
 {
     let node = s.node;
-    t[k] = node.kind;
+    put_word(t, k, node.kind);
     t[k + 1] = node.number;
     t[k + 2] = s.pan;
 }
@@ -58,7 +75,7 @@ fn put_head(t: &mut [u64; 149], k: usize, s: Slot)
 
 fn put_words(t: &mut [u64; 149], k: usize, s: Slot)
     requires { ⌜ k + 17 ≤ 149 ⌝ }
-    ensures { λ _. ⌜ now (t .exit) ≡ put k (slotWords s) (now (t .entry)) ⌝ }
+    ensures { λ _. ⌜ (length (now (t .entry)) ≡ 149) × (now (t .exit) ≡ put k (slotWords s) (now (t .entry))) ⌝ }
 {
     let key = s.key;
     let src = key.src;
@@ -104,7 +121,7 @@ pub fn age(t: &mut [u64; 149], time: u64)
         age_slot(t, i, time);
         i = i + 1;
     }
-    t[LAST] = time;
+    put_word(t, LAST, time);
 }
 
 fn put_seat(t: &mut [u64; 149], i: usize, s: Source)
@@ -120,7 +137,7 @@ fn clear(t: &mut [u64; 149])
 {
     let mut k: usize = 0;
     while k < WORDS {
-        t[k] = 0;
+        put_word(t, k, 0);
         k = k + 1;
     }
 }

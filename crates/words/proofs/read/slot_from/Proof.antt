@@ -1,7 +1,4 @@
 use Rattle.words.proofs.Numbers.{slot-read}
-use mathlib.Core.Path.{_∙_}
-use mathlib.Core.Path.{ap}
-use Rattle.words.specs.Words.{slotIn, nodeIn}
 use borrow.Author.Needs.{needs}
 use Rattle.words.proofs.read.slot_from.Statement.{statement}
 use Rattle.words.proofs.read.slot_from.Tie as tie

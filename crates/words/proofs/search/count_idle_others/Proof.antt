@@ -1,55 +1,60 @@
+use mathlib.Core.Path.{_≡_, sym, _∙_}
+use mathlib.Core.Bool.{true, false}
+use Prim.Native.Nat.{_≤_, _+_, _-_}
+use native.Mathlib.Omega.{arith}
+use lib.ListN.{drop}
+use mathlib.Core.Logic.{⊎-elim}
+use Rattle.reassembly.specs.Lists.{count}
+use Rattle.reassembly.specs.Slots.{noSource}
+use Rattle.reassembly.proofs.Slots.{idleSeat, idle-seats}
+use Rattle.words.specs.Words.{tableIn}
+use Rattle.words.proofs.Numbers.{seats-four}
+use Rattle.words.proofs.Loops.{one-more, no-more, counted}
+use Rattle.words.proofs.Gates.{seat-told}
+use borrow.Author.Needs.{needs}
 use Rattle.words.proofs.search.count_idle_others.Statement.{statement}
 use Rattle.words.proofs.search.count_idle_others.Tie as tie
-use Rattle.words.proofs.search.count_idle_others.Reads as reads
-use Rattle.words.proofs.search.count_idle_others.Lts as lts
-use Rattle.words.proofs.read.source_at.Reads as source-at-reads
-use Rattle.words.proofs.search.is_idle_other.Reads as is-idle-other-reads
 
 abbrev Inv-loop : tie.InvT-loop
-Inv-loop t g n₀ i₀ n i = ?
+Inv-loop t g n₀ i₀ n i = (i ≤ 4) × (n ≤ i) × (count (idleSeat (tableIn t .slots) g) (tableIn t .gateways) ≡ n + count (idleSeat (tableIn t .slots) g) (drop i (tableIn t .gateways)))
 
 abbrev μ-loop : tie.MeasureT-loop
-μ-loop t g n₀ i₀ n i = ?
+μ-loop t g n₀ i₀ n i = 4 - i
 
--- src/search.rt:161:5
 loop-holds : tie.Need-loop-holds Inv-loop μ-loop
-loop-holds c = ?
+loop-holds c = (search needs, search needs, omega arith)
 
--- src/search.rt:162:38
 mul-source-at : tie.Need-mul-source-at Inv-loop μ-loop
-mul-source-at c = ?
+mul-source-at c = search needs
 
--- src/search.rt:162:30
 add-source-at : tie.Need-add-source-at Inv-loop μ-loop
-add-source-at c = ?
+add-source-at c = search needs
 
--- src/search.rt:162:13
 source-at-requires : tie.Need-source-at-requires Inv-loop μ-loop
-source-at-requires c κs = ?
+source-at-requires c κs = search needs
 
--- src/search.rt:163:12
 is-idle-other-requires : tie.Need-is-idle-other-requires Inv-loop μ-loop
-is-idle-other-requires c κs = ?
+is-idle-other-requires c κs = search needs
 
--- src/search.rt:164:17
 add-n : tie.Need-add-n Inv-loop μ-loop
-add-n c = ?
+add-n c = search needs
 
--- src/search.rt:166:13
 add-i : tie.Need-add-i Inv-loop μ-loop
-add-i c = ?
+add-i c = search needs
 
--- src/search.rt:161:5
 loop-less : tie.Need-loop-less Inv-loop μ-loop
-loop-less c = ?
+loop-less c = search needs
 
--- src/search.rt:161:5
 loop-again : tie.Need-loop-again Inv-loop μ-loop
-loop-again c = ?
+loop-again c = let f = idleSeat (tableIn (c .before .before .before .before .before .args .t .now) .slots) (c .before .before .before .before .before .args .g) in
+    let told = seat-told (c .before .before .before .before .before .args .t .now) (c .before .before .before .before .loop .i) (c .before .before .before .loop-test .taken) f (c .before .before .source-at .result) (c .before .before .source-at .ensures) in
+    ⊎-elim
+    (λ w. let k = one-more f (tableIn (c .before .before .before .before .before .args .t .now) .gateways) noSource 4 (c .before .before .before .before .loop .i) (seats-four (c .before .before .before .before .before .args .t .now)) (c .before .before .before .before .loop .n) (c .before .before .before .before .loop .inv .2) (c .before .before .before .loop-test .taken) (told true (sym (c .before .is-idle-other .ensures) ∙ w .0 .taken)) in (omega arith, omega arith, omega arith))
+    (λ w. let k = no-more f (tableIn (c .before .before .before .before .before .args .t .now) .gateways) noSource 4 (c .before .before .before .before .loop .i) (seats-four (c .before .before .before .before .before .args .t .now)) (c .before .before .before .before .loop .n) (c .before .before .before .before .loop .inv .2) (c .before .before .before .loop-test .taken) (told false (sym (c .before .is-idle-other .ensures) ∙ w .0 .left)) in (omega arith, omega arith, omega arith))
+    (c .if1 .came)
 
--- src/search.rt:156:1
 returns : tie.Need-returns Inv-loop μ-loop
-returns c = ?
+returns c = counted (idleSeat (tableIn (c .before .before .args .t .now) .slots) (c .before .before .args .g)) (tableIn (c .before .before .args .t .now) .gateways) noSource 4 (c .before .loop .i) (seats-four (c .before .before .args .t .now)) (c .before .loop .n) (c .before .loop .inv .2) (c .before .loop .inv .0) (c .loop-test .left) ∙ sym (idle-seats (tableIn (c .before .before .args .t .now)) (c .before .before .args .g))
 
 pub count-idle-others-spec : {M : Type 1} → statement M
 count-idle-others-spec =

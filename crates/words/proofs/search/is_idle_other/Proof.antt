@@ -1,35 +1,29 @@
+use Prim.Native.Nat.{ℕ}
+use mathlib.Core.Path.{ap}
+use lib.Dec.{eqb}
+use borrow.Author.Tests.{not-true}
+use Rattle.reassembly.proofs.Tests.{tests, and-told, not-told, not-stops}
 use borrow.Author.Needs.{needs}
 use Rattle.words.proofs.search.is_idle_other.Statement.{statement}
 use Rattle.words.proofs.search.is_idle_other.Tie as tie
-use Rattle.words.proofs.search.is_idle_other.Reads as reads
-use Rattle.words.proofs.search.is_idle_other.Lts as lts
-use Rattle.reassembly.proofs.slot.Source.is_present.Reads as is-present-reads
-use Rattle.reassembly.proofs.slot.Source.same.Reads as same-reads
-use Rattle.words.proofs.search.count_held.Reads as count-held-reads
 
--- src/search.rt:153:5
 is-present-requires : tie.Need-is-present-requires
 is-present-requires c κs = search needs
 
--- src/search.rt:153:25
 same-requires : tie.Need-same-requires
 same-requires c κs = search needs
 
--- src/search.rt:153:38
 count-held-requires : tie.Need-count-held-requires
 count-held-requires c κs = search needs
 
--- src/search.rt:150:1
 returns : tie.Need-returns
-returns c = ?
+returns c = and-told _ _ (c .before .before .before .before .is-present .ensures) (c .before .before .before .if1 .taken) (not-told _ _ (c .before .before .same .ensures) (not-true _ (c .before .if2 .taken)) (ap (λ (x : ℕ). eqb x 0) (c .count-held .ensures)))
 
--- src/search.rt:150:1
 returns-2 : tie.Need-returns-2
-returns-2 c = ?
+returns-2 c = and-told _ _ (c .before .before .before .is-present .ensures) (c .before .before .if1 .taken) (not-stops _ _ (c .before .same .ensures) (c .if2 .left))
 
--- src/search.rt:150:1
 returns-3 : tie.Need-returns-3
-returns-3 c = ?
+returns-3 c = search tests
 
 pub is-idle-other-spec : {M : Type 1} → statement M
 is-idle-other-spec =

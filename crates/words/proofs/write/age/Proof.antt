@@ -1,6 +1,5 @@
-use Prim.Native.Nat.{_≤_, _<_, _+_, _-_}
-use native.Mathlib.Omega.{arith}
-use mathlib.Core.Path.{_≡_}
+use Prim.Native.Nat.{_≤_, _-_}
+use mathlib.Core.Path.{_≡_, ap, _∙_}
 use Rattle.words.specs.Words.{tableIn}
 use Rattle.words.proofs.Ages.{agedSlots, age-none, age-turn, age-end}
 use borrow.Author.Needs.{needs}
@@ -28,11 +27,11 @@ loop-less c = search needs
 loop-again : tie.Need-loop-again Inv-loop μ-loop
 loop-again c = (search needs, age-turn (c .before .before .before .before .args .t .now) (c .before .before .before .loop .t) _ (c .before .before .before .before .args .time) (c .before .before .before .loop .i) (c .before .before .loop-test .taken) (c .before .before .before .loop .inv .1) (c .age-slot .ensures))
 
-element-write-t : tie.Need-element-write-t Inv-loop μ-loop
-element-write-t c = search needs
+put-word-requires : tie.Need-put-word-requires Inv-loop μ-loop
+put-word-requires c κs = search needs
 
 returns : tie.Need-returns Inv-loop μ-loop
-returns c = let g = c .before .loop in let q = c .before .before .good in ?
+returns c = ap tableIn (c .put-word .ensures .1) ∙ age-end (c .before .before .before .before .args .t .now) (c .before .before .before .loop .t) (c .before .before .before .before .args .time) (c .before .before .before .loop .i) (c .put-word .ensures .0) (c .before .before .loop-test .left) (c .before .before .before .loop .inv .1)
 
 pub age-spec : {M : Type 1} → statement M
 age-spec =
@@ -45,5 +44,5 @@ age-spec =
     add-i
     loop-less
     loop-again
-    element-write-t
+    put-word-requires
     returns)

@@ -1,5 +1,4 @@
-use mathlib.Core.Path.{_≡_, refl, ap, _∙_}
-use lib.ListN.{length}
+use mathlib.Core.Path.{refl, ap, _∙_}
 use Rattle.words.specs.Words.{tableIn, withSeat, sourceWords}
 use Rattle.words.proofs.Numbers.{table-seat, source-back}
 use borrow.Author.Needs.{needs}
@@ -17,8 +16,7 @@ put-source-requires c κs = search needs
 
 returns : tie.Need-returns
 unfolding sourceWords
-returns c = let n : length (c .before .before .args .t .now) ≡ 149 = c .before .before .good .0 .1 .1 in
-    ap tableIn (c .put-source .ensures) ∙ table-seat (c .before .before .args .t .now) n (sourceWords (c .before .before .args .s)) refl (c .before .before .args .i) (c .before .before .pre) ∙ ap (withSeat (tableIn (c .before .before .args .t .now)) (c .before .before .args .i)) (source-back (c .before .before .args .s))
+returns c = ap tableIn (c .put-source .ensures .1) ∙ table-seat (c .before .before .args .t .now) (c .put-source .ensures .0) (sourceWords (c .before .before .args .s)) refl (c .before .before .args .i) (c .before .before .pre) ∙ ap (withSeat (tableIn (c .before .before .args .t .now)) (c .before .before .args .i)) (source-back (c .before .before .args .s))
 
 pub put-seat-spec : {M : Type 1} → statement M
 put-seat-spec = tie.close (tie.spec mul-put-source add-put-source put-source-requires returns)

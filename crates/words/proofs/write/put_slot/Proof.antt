@@ -1,6 +1,7 @@
-use mathlib.Core.Path.{_≡_, refl, ap, _∙_}
+use Rattle.reassembly.proofs.Lists.{unmapped}
+use Rattle.words.proofs.Numbers.{Held, table-slot, slot-back, no-slot, slot-words}
+use mathlib.Core.Path.{ap, _∙_}
 use native.Mathlib.Omega.{arith}
-use lib.ListN.{length}
 use Rattle.words.specs.Words.{tableIn, withSlot, slotWords}
 use Rattle.words.proofs.Numbers.{Held, table-slot, slot-back, no-slot}
 use borrow.Author.Needs.{needs}
@@ -14,7 +15,10 @@ put-words-requires : tie.Need-put-words-requires
 put-words-requires c κs = search needs
 
 returns : tie.Need-returns
-returns c = let g = c .before .before .before .good .0 in let h = c .before .put-words-arg .given in let k = c .put-words .kept in let o = c .before .before .before .good .1 .1 .0 in ?
+returns c = let s = c .before .before .before .args .s in
+    let g = c .before .before .before .good .1 .1 .0 .1 .1 in
+    let held : Held s = record { size = omega arith; tag = omega arith; ip = omega arith; udp = omega arith; covered = unmapped (s .covered) _ (g .1 .1 .0 .1 .0 .1); starts = unmapped (s .starts) _ (g .1 .1 .1 .0 .1 .0 .1) } in
+    ap tableIn (c .put-words .ensures .1) ∙ table-slot (c .before .before .before .args .t .now) (c .put-words .ensures .0) (slotWords s) (slot-words s) (c .before .before .before .args .i) (c .before .before .if1 .taken) ∙ ap (withSlot (tableIn (c .before .before .before .args .t .now)) (c .before .before .before .args .i)) (slot-back s held)
 
 returns-2 : tie.Need-returns-2
 returns-2 c = no-slot (c .before .args .t .now) (c .before .args .i) (c .before .args .s) (c .if1 .left)

@@ -43,7 +43,7 @@ element-write-t-2 : tie.Need-element-write-t-2
 element-write-t-2 c = search needs
 
 returns : tie.Need-returns
-returns c = slot-stored (c .before .before .before .before .before .before .before .before .before .before .before .before .before .args .k) (c .before .before .before .before .before .before .before .before .before .before .before .before .before .args .s) (c .before .before .before .before .before .before .before .before .before .before .before .before .before .args .t .now) (c .before .before .before .before .before .before .put-source .last .0) (c .before .before .before .before .put-head .last .0) (c .before .before .put-four .last .0) (c .put-four2 .last .0) (c .before .before .before .before .before .before .put-source .ensures) (c .before .before .before .before .put-head .ensures) (c .before .before .put-four .ensures) (c .put-four2 .ensures)
+returns c = (c .before .before .before .before .before .before .put-source .ensures .0, slot-stored (c .before .before .before .before .before .before .before .before .before .before .before .before .before .args .k) (c .before .before .before .before .before .before .before .before .before .before .before .before .before .args .s) (c .before .before .before .before .before .before .before .before .before .before .before .before .before .args .t .now) (c .before .before .before .before .before .before .put-source .last .0) (c .before .before .before .before .put-head .last .0) (c .before .before .put-four .last .0) (c .put-four2 .last .0) (c .before .before .before .before .before .before .put-source .ensures .1) (c .before .before .before .before .put-head .ensures) (c .before .before .put-four .ensures) (c .put-four2 .ensures))
 
 pub put-words-spec : {M : Type 1} → statement M
 put-words-spec =
