@@ -5,3 +5,4 @@ pub mod Stores
 pub mod Ages
 pub mod Loops
 pub mod Gates
+pub mod Unique

@@ -7,7 +7,7 @@ ghost use lib.Dec.{eqb};
 ghost use Rattle.reassembly.specs.Lists.{firstAt};
 ghost use Rattle.reassembly.specs.Slots.{sameNode, sameSource, present, freeSlot, isKey, isOf, isFree};
 ghost use Rattle.reassembly.specs.Slots.{gatesOf, isGate, held, free, idleOthers, opening};
-ghost use Rattle.words.specs.Words.{nodeIn, sourceIn, slotIn, tableIn};
+ghost use Rattle.words.specs.Words.{nodeIn, sourceIn, tableIn};
 use super::SEATS;
 use super::SLOT_WORDS;
 use super::read::source_at;

@@ -5,7 +5,8 @@ ghost use lib.ListN.{length, getD, set, replicate};
 ghost use Rattle.octets.specs.Write.{put};
 ghost use Rattle.reassembly.specs.Slots.{freeSlot, noSource, expire, expire1};
 ghost use Rattle.reassembly.specs.Table.{withSlots};
-ghost use Rattle.words.specs.Words.{fourIn, tableIn, withSlot, withSeat, sourceWords, headWords, packed, slotWords};
+ghost use Rattle.words.specs.Words.{fourIn, tableIn, withSlot, withSeat};
+ghost use Rattle.words.specs.Words.{sourceWords, headWords, packed, slotWords};
 use super::LAST;
 use super::SEATS;
 use super::SLOT_WORDS;
@@ -102,7 +103,8 @@ pub fn put_slot(t: &mut [u64; 149], i: usize, s: Slot)
 // Frees slot i, where it is 60,000 ms or more past its opening.
 fn age_slot(t: &mut [u64; 149], i: usize, time: u64)
     requires { ⌜ i < 8 ⌝ }
-    ensures { λ _. ⌜ tableIn (now (t .exit)) ≡ withSlot (tableIn (now (t .entry))) i (expire1 time (getD (tableIn (now (t .entry)) .slots) i freeSlot)) ⌝ }
+    ensures { λ _. ⌜ tableIn (now (t .exit)) ≡ withSlot (tableIn (now (t .entry))) i
+        (expire1 time (getD (tableIn (now (t .entry)) .slots) i freeSlot)) ⌝ }
 {
     let k = i * SLOT_WORDS;
     if t[k + 15] == 1 {
@@ -114,7 +116,8 @@ fn age_slot(t: &mut [u64; 149], i: usize, time: u64)
 
 // The time is taken, and slots 60,000 ms or more past their opening are freed.
 pub fn age(t: &mut [u64; 149], time: u64)
-    ensures { λ _. ⌜ tableIn (now (t .exit)) ≡ withSlots (tableIn (now (t .entry))) time (expire time (tableIn (now (t .entry)) .slots)) ⌝ }
+    ensures { λ _. ⌜ tableIn (now (t .exit)) ≡ withSlots (tableIn (now (t .entry))) time
+        (expire time (tableIn (now (t .entry)) .slots)) ⌝ }
 {
     let mut i: usize = 0;
     while i < SLOTS {
@@ -133,7 +136,8 @@ fn put_seat(t: &mut [u64; 149], i: usize, s: Source)
 
 // Every number 0: the table of free slots that has no gateway.
 fn clear(t: &mut [u64; 149])
-    ensures { λ _. ⌜ tableIn (now (t .exit)) ≡ record { slots = replicate 8 freeSlot; last = 0; gateways = replicate 4 noSource } ⌝ }
+    ensures { λ _. ⌜ tableIn (now (t .exit))
+        ≡ record { slots = replicate 8 freeSlot; last = 0; gateways = replicate 4 noSource } ⌝ }
 {
     let mut k: usize = 0;
     while k < WORDS {
