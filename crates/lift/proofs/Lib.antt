@@ -1,5 +1,3 @@
 pub mod Lists
 pub mod Lengths
-pub mod InPlace
-pub mod Items
 pub mod Sending

@@ -1,4 +1,4 @@
--- The gateway list as numbers, and what `Table::new` makes of it.
+-- The gateway list as numbers, and what `words::begin` makes of it.
 use Prim.Native.Nat.{ℕ, zero, suc, _+_, _*_, _/_, _%_, _≤_, _<_}
 use native.Mathlib.Omega.{arith}
 use mathlib.Core.Path.{_≡_, refl, sym, ap, _∙_}
@@ -6,11 +6,9 @@ use mathlib.Core.Bool.{true, false}
 use mathlib.Core.List.{List, [], _∷_, map}
 use lib.ListN.{length, getD, take}
 use lib.Seq.{take-length}
-use lib.Dec.{eqb}
-use Rattle.octets.specs.Read.{choose}
 use Rattle.octets.specs.Refusal.{numberOf}
 use Rattle.octets.specs.declared.refusal.Refusal.{Refusal}
-use Rattle.reassembly.specs.Fresh.{gateOf, sources, refusedList, fresh, Gateways, Begins}
+use Rattle.reassembly.specs.Fresh.{gateOf, sources, refusedList, fresh, made, Gateways, Begins}
 use Rattle.reassembly.specs.declared.table.Table.{Table}
 use Rattle.reassembly.specs.declared.table.Listed.{Listed}
 use Rattle.reassembly.specs.declared.table.Gateway.{Gateway}
@@ -66,20 +64,20 @@ module _ (l : List ℕ) (four-of : List Gateway) (n : ℕ) (are : four-of ≡ ga
       by-order n 4 (λ h. rw (same-sources h) (ap (λ z. refusedList z (gateways l)) many))
       (λ h. refuses-long n (sources n four-of) h ∙ sym (rw (sym many) (refuses-long n (gateways l) h)))
 
-  module _ (x : Table) (y : Listed) (b : Begins y x n four-of) where
-    pub begun-list : y ≡ Listed.Accepted → (0 ≡ listAnswer l) × ((t : Table) → choose (eqb 0 0) x t ≡ tableBegun t l)
+  module _ (t x : Table) (y : Listed) (b : Begins y t x n four-of) where
+    pub begun-list : y ≡ Listed.Accepted → (0 ≡ listAnswer l) × (x ≡ tableBegun t l)
     unfolding listAnswer tableBegun
     begun-list e =
-        let h = when-accepted n four-of y x b e in
+        let h = when-accepted n four-of y (b .answer) e in
         let k : refusesList l ≡ false = sym same-refusal ∙ h in
-        (rw k refl, λ t. rw k (when-fit n four-of y x b h ∙ ap fresh (same-sources (not-long n (sources n four-of) h))))
+        (rw k refl, rw k (when-fit n four-of y t x b h ∙ ap fresh (same-sources (not-long n (sources n four-of) h))))
 
-    pub refused-list : (r : Refusal) → y ≡ Listed.Refused r → (j : ℕ) → j ≡ numberOf r → (j ≡ listAnswer l) × ((t : Table) → choose (eqb j 0) x t ≡ tableBegun t l)
-    unfolding listAnswer tableBegun
+    pub refused-list : (r : Refusal) → y ≡ Listed.Refused r → (j : ℕ) → j ≡ numberOf r → (j ≡ listAnswer l) × (x ≡ tableBegun t l)
+    unfolding listAnswer tableBegun made
     refused-list r e j q =
-        let h = when-refused n four-of y x b r e in
+        let h = when-refused n four-of y (b .answer) r e in
         let k : refusesList l ≡ true = sym same-refusal ∙ h .0 in
-        (rw k (q ∙ h .1), λ t. rw (k, q ∙ h .1) refl)
+        (rw k (q ∙ h .1), rw k (rw (h .0) at (b .table)))
 
 -- ---- a list that is accepted
 fit-list : (l : List ℕ) → refusesList l ≡ false → Gateways (gateways l)
