@@ -11,6 +11,7 @@ ghost use Rattle.iphc.specs.Iphc.{iphc};
 ghost use Rattle.iphc.specs.Answers.{ofParsed};
 ghost use Rattle.reassembly.specs.Slots.{gatesOf};
 ghost use Rattle.reassembly.specs.Table.{step, Gives};
+ghost use Rattle.words.specs.Words.{tableIn};
 ghost use Rattle.receiver.specs.Receive.{callOf};
 ghost use Rattle.contexts.specs.Slice.{listed, empty, appended, withAt, laidTo, bytesOf};
 use expand::copy::put_slice;
@@ -19,8 +20,7 @@ use iphc::context::AddressContext;
 use iphc::header::Parsed;
 use iphc::header::Repr;
 use octets::cursor::Cursor;
-use reassembly::Received;
-use reassembly::Table;
+use reassembly::Outcome;
 
 // Up to sixteen contexts as flat bytes, 8 each: the first `len` of `bytes`.
 pub struct Flat {
@@ -102,38 +102,39 @@ fn at_most_128(n: usize) -> usize
 }
 
 fn receive_flat(
-    table: Table,
+    t: &mut [u64; 149],
     time: u64,
     frame: &[u8],
     f: Flat,
     mem: &mut [u8],
     out: &mut [u8],
-) -> Received
-    ensures { λ r. ⌜ Gives r (now (mem .exit)) (now (out .entry)) (now (out .exit))
-        (step (record { table = table; mem = now (mem .entry) })
-        (callOf (now (mem .entry)) (now (out .entry)) (gatesOf table) (bytesOf f) time (now (frame .entry)))) ⌝ }
+) -> Outcome
+    ensures { λ r. ⌜ Gives (record { answer = r; table = tableIn (now (t .exit)) }) (now (mem .exit)) (now (out .entry))
+        (now (out .exit)) (step (record { table = tableIn (now (t .entry)); mem = now (mem .entry) })
+        (callOf (now (mem .entry)) (now (out .entry)) (gatesOf (tableIn (now (t .entry)))) (bytesOf f) time
+        (now (frame .entry)))) ⌝ }
 {
     let bytes = f.bytes;
     let n = at_most_128(f.len);
-    receiver::receive(table, time, frame, &bytes[0..n], mem, out)
+    receiver::receive(t, time, frame, &bytes[0..n], mem, out)
 }
 
-// A frame that comes at a time, with the contexts as a slice.
+// A frame that comes at a time, to the table that the caller keeps in 149 numbers, with the contexts as a slice.
 pub fn receive(
-    table: Table,
+    t: &mut [u64; 149],
     time: u64,
     frame: &[u8],
     contexts: &[AddressContext],
     mem: &mut [u8],
     out: &mut [u8],
-) -> Received
-    ensures { λ r. ⌜ Gives r (now (mem .exit)) (now (out .entry)) (now (out .exit))
-        (step (record { table = table; mem = now (mem .entry) })
-        (callOf (now (mem .entry)) (now (out .entry)) (gatesOf table) (listed (now (contexts .entry))) time
-        (now (frame .entry)))) ⌝ }
+) -> Outcome
+    ensures { λ r. ⌜ Gives (record { answer = r; table = tableIn (now (t .exit)) }) (now (mem .exit)) (now (out .entry))
+        (now (out .exit)) (step (record { table = tableIn (now (t .entry)); mem = now (mem .entry) })
+        (callOf (now (mem .entry)) (now (out .entry)) (gatesOf (tableIn (now (t .entry))))
+        (listed (now (contexts .entry))) time (now (frame .entry)))) ⌝ }
 {
     let f = flatten(contexts);
-    receive_flat(table, time, frame, f, mem, out)
+    receive_flat(t, time, frame, f, mem, out)
 }
 
 fn read_flat(buf: &[u8], c: Cursor, ll_src: AddressField, ll_dst: AddressField, f: Flat) -> Parsed

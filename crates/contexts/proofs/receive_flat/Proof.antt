@@ -18,9 +18,9 @@ part-receive-start c = search needs
 
 part-receive-end : tie.Need-part-receive-end
 part-receive-end c =
-    let b = c .before .before .before .before .before .before in
+    let b = c .before .before .before .before .before .before .before in
     let n : length (b .args .f .bytes) ≡ 128 = unmapped (b .args .f .bytes) _ (b .good .1 .1 .1 .0 .1 .1 .0 .1 .0 .1) in
-    omega (arith, n, c .before .at-most-128 .ensures .1)
+    omega (arith, n, c .before .before .at-most-128 .ensures .1)
 
 receive-requires : tie.Need-receive-requires
 receive-requires c κs = search needs
@@ -33,9 +33,9 @@ same-length-2 c = search needs
 
 returns : tie.Need-returns
 returns c =
-    let a = c .before .before .before .before .before .before .before .before .before .before .before .before .before .before .args in
-    let n : length (a .f .bytes) ≡ 128 = unmapped (a .f .bytes) _ (c .before .before .before .before .before .before .before .before .before .before .before .before .before .before .good .1 .1 .1 .0 .1 .1 .0 .1 .0 .1) in
-    rw (bytes-of (a .f) _ n (c .before .before .before .before .before .before .before .before .before .at-most-128 .ensures .0)) at (c .before .before .before .before .receive .ensures)
+    let a = c .before .before .before .before .before .before .before .before .before .before .before .before .before .before .before .args in
+    let n : length (a .f .bytes) ≡ 128 = unmapped (a .f .bytes) _ (c .before .before .before .before .before .before .before .before .before .before .before .before .before .before .before .good .1 .1 .1 .0 .1 .1 .0 .1 .0 .1) in
+    rw (bytes-of (a .f) _ n (c .before .before .before .before .before .before .before .before .before .before .at-most-128 .ensures .0)) at (c .before .before .before .before .receive .ensures)
 
 pub receive-flat-spec : {M : Type 1} → statement M
 receive-flat-spec =
