@@ -39,7 +39,7 @@ use Rattle.iphc.specs.declared.header.Parsed.{Parsed}
 use Rattle.iphc.proofs.Lengths.{iphc-length}
 use Rattle.expand.specs.Full.{isAbsent, ipv6With, udpFull}
 use Rattle.expand.specs.Sum.{noSum}
-use Rattle.expand.specs.Chain.{Chain, rest, udpThen, extension, ipv6, Link, udpLink, extLink, innerLink, Around, fullNumber, badLength, octets, extData, extBody, innerByte, extKind, idAt, udpStep, linkOf, link, within, past, inside, behindNext, headerThen, udpEnd, onward, chain, nhcNumber, nextNumber, headNumber, fullSize, extFull, sizeOf, fullBytes, sumFor, sumIn, ofLink, around, passed, entered, fewer, ofWalked, endOf, Lays, Walks, totalOf, totalIn, ofTotal, ending, Measure}
+use Rattle.expand.specs.Chain.{Chain, rest, udpThen, extension, ipv6, Link, udpLink, extLink, innerLink, Around, fullNumber, badLength, octets, extData, extBody, innerByte, extKind, idAt, udpStep, linkOf, link, within, past, inside, identified, behindNext, headerThen, udpEnd, onward, chain, nhcNumber, nextNumber, headNumber, fullSize, extFull, sizeOf, fullBytes, sumFor, sumIn, ofLink, around, passed, entered, fewer, ofWalked, endOf, Lays, Walks, totalOf, totalIn, ofTotal, ending, Measure}
 use Rattle.expand.specs.declared.checksum.UdpSum.{UdpSum}
 use Rattle.expand.specs.declared.chain.Step.{Step}
 use Rattle.expand.specs.declared.chain.Way.{Way}
@@ -288,6 +288,41 @@ number-read Compressed left ctx w s at c n e =
     let i = invert (link left s at) (λ p. onward ctx (shorter left ctx) w (p .value) s (p .next)) _ (sym (chain-is left ctx w s at) ∙ e) in
     link-number left s at (i .value .value) (i .value .next) (i .first) ∙ onward-number ctx (shorter left ctx) w (i .value .value) s (i .value .next) c n (i .second)
 
+-- ---- what is inside an IPv6 header depends on the identifiers of its addresses, and not on their prefixes
+abbrev Same : Around → Around → Type 0
+Same v w = (v .src .iid ≡ w .src .iid) × (v .dst .iid ≡ w .dst .iid) × (v .routed ≡ w .routed)
+
+then-same : {A B : Type 0} (m : Answer A) (f g : A → Answer B) → ((x : A) → f x ≡ g x) → andThen m f ≡ andThen m g
+then-same (is x) f g e = e x
+then-same (refused n) f g e = refl
+
+abbrev Blind : (Around → Reader Chain) → Type 0
+Blind m = (v w : Around) → Same v w → (s : List ℕ) (at : ℕ) → m v s at ≡ m w s at
+
+behind-same : (m : Around → Reader Chain) → Blind m → (next : NextHeader) (v w : Around) → Same v w → (s : List ℕ) (at : ℕ) → behindNext next (m v) s at ≡ behindNext next (m w) s at
+unfolding behindNext
+behind-same m f (Uncompressed p) v w e s at = refl
+behind-same m f Compressed v w e s at = f v w e s at
+
+onward-same : (ctx : List ℕ) (m : Around → Reader Chain) → Blind m → (l : Link) (v w : Around) → Same v w → (s : List ℕ) (at : ℕ) → onward ctx m v l s at ≡ onward ctx m w l s at
+unfolding onward udpEnd
+onward-same ctx m f (udpLink h) v w e s at = ap (λ t. choose (t && isAbsent (h .checksum)) (refused 13) (got (udpThen h (drop at s)) at)) (e .2)
+onward-same ctx m f (extLink x d next) v w e s at = ap (λ z. andThen z (λ p. got (extension x d (p .value)) (p .next))) (behind-same m f next (past x v) (past x w) (e .0, e .1, ap (λ t. eqb x 43 || t) (e .2)) s at)
+onward-same ctx m f innerLink v w e s at = ap (λ z. headerThen ctx (identified z) (inside (v .dst)) m s at) (e .0) ∙ ap (λ z. headerThen ctx (inside (w .src)) (identified z) m s at) (e .1)
+
+pub chain-same : (left : ℕ) (ctx : List ℕ) → Blind (chain left ctx)
+chain-same zero ctx v w e s at =
+    chain-is zero ctx v s at
+    ∙ then-same (link zero s at) _ _ (λ p. onward-same ctx (λ u. refuse 3) (λ a b h t k. refl) (p .value) v w e s (p .next))
+    ∙ sym (chain-is zero ctx w s at)
+chain-same (suc left) ctx v w e s at =
+    chain-is (suc left) ctx v s at
+    ∙ then-same (link (suc left) s at) _ _ (λ p. onward-same ctx (chain left ctx) (chain-same left ctx) (p .value) v w e s (p .next))
+    ∙ sym (chain-is (suc left) ctx w s at)
+
+pub next-same : (next : NextHeader) (left : ℕ) (ctx : List ℕ) (v w : Around) (s : List ℕ) (at : ℕ) → v .src .iid ≡ w .src .iid → v .dst .iid ≡ w .dst .iid → v .routed ≡ w .routed → behindNext next (chain left ctx v) s at ≡ behindNext next (chain left ctx w) s at
+next-same next left ctx v w s at a b c = behind-same (chain left ctx) (chain-same left ctx) next v w (a, b, c) s at
+
 -- ---- how long a chain gets: a header takes at most 40 bytes more than it was read from, and UDP 8
 abbrev Within : ℕ → List ℕ → ℕ → Chain → Type 0
 Within left s at c = sizeOf c ≤ 40 * left + 8 + (length s - at)
@@ -495,13 +530,13 @@ module _ (w : Way) (ctx s l : List ℕ) (at : ℕ) where
   chain-udp r o next y h n q p g W = subst (λ z. Walks r w z l o) (step-is next y (udpLink h) n q p (ap (λ z. ofLink z s) g)) W
 
   pub chain-inner : (r : Walked) (o : List ℕ) (next : NextHeader) (y : Step) (n : ℕ) (v : Way) → next ≡ Compressed → ofLink y s ≡ link (w .left) s at → y ≡ Step.Inner n → v ≡ fewer w
-      → Walks r v (headerThen ctx (inside (v .src)) (inside (v .dst)) (chain (v .left) ctx) s n) l o → Chains r next o
+      → Walks r v (headerThen ctx (identified (v .src)) (identified (v .dst)) (chain (v .left) ctx) s n) l o → Chains r next o
   unfolding onward
   chain-inner r o next y n v q p g i X =
-      let W : Walks r (fewer w) (headerThen ctx (inside (w .src)) (inside (w .dst)) (chain (w .left - 1) ctx) s n) l o = subst (λ z. Walks r z (headerThen ctx (inside (z .src)) (inside (z .dst)) (chain (z .left) ctx) s n) l o) i X in
+      let W : Walks r (fewer w) (headerThen ctx (identified (w .src)) (identified (w .dst)) (chain (w .left - 1) ctx) s n) l o = subst (λ z. Walks r z (headerThen ctx (identified (z .src)) (identified (z .dst)) (chain (z .left) ctx) s n) l o) i X in
       let k : 1 ≤ w .left = link-steps (w .left) s at innerLink n (sym p ∙ ap (λ z. ofLink z s) g) .wants in
-      subst (λ z. Walks r w z l o) (ap (λ z. headerThen ctx (inside (w .src)) (inside (w .dst)) z s n) (sym (shorter-is (w .left) ctx k)) ∙ step-is next y innerLink n q p (ap (λ z. ofLink z s) g))
-      (fewer-go r w (headerThen ctx (inside (w .src)) (inside (w .dst)) (chain (w .left - 1) ctx) s n) l o W)
+      subst (λ z. Walks r w z l o) (ap (λ z. headerThen ctx (identified (w .src)) (identified (w .dst)) z s n) (sym (shorter-is (w .left) ctx k)) ∙ step-is next y innerLink n q p (ap (λ z. ofLink z s) g))
+      (fewer-go r w (headerThen ctx (identified (w .src)) (identified (w .dst)) (chain (w .left - 1) ctx) s n) l o W)
 
   -- behind an extension header, from the place `to` on
   module _ (next then : NextHeader) (y : Step) (x from to len : ℕ) (v : Way) (q : next ≡ Compressed) (p : ofLink y s ≡ link (w .left) s at) (g : y ≡ Step.Extension x then from to) (e : len ≡ to - from) (i : v ≡ passed x len w) where
@@ -538,9 +573,9 @@ module _ (w : Way) (ctx s l : List ℕ) (at : ℕ) where
         subst (λ t. Walks (Walked.Refused d) w t l n) whole-is (walks-ext-no d w x carried rests l n W)
 
 -- an IPv6 header
-module _ (w : Way) (ctx s l : List ℕ) (ls ld : AddressField) (at : ℕ) (y : Parsed) (i : ls ≡ inside (w .src)) (j : ld ≡ inside (w .dst)) (p : ofParsed y ≡ iphc ctx ls ld s at) where
+module _ (w : Way) (ctx s l : List ℕ) (ls ld : AddressField) (at : ℕ) (y : Parsed) (i : ls ≡ identified (w .src)) (j : ld ≡ identified (w .dst)) (p : ofParsed y ≡ iphc ctx ls ld s at) where
   abbrev Headers : Walked → List ℕ → Type 0
-  Headers r o = Walks r w (headerThen ctx (inside (w .src)) (inside (w .dst)) (chain (w .left) ctx) s at) l o
+  Headers r o = Walks r w (headerThen ctx (identified (w .src)) (identified (w .dst)) (chain (w .left) ctx) s at) l o
 
   pub header-refused : (e : Refusal) → y ≡ Parsed.Refused e → Headers (Walked.Refused e) l
   unfolding headerThen
@@ -554,7 +589,8 @@ module _ (w : Way) (ctx s l : List ℕ) (ls ld : AddressField) (at : ℕ) (y : P
     behind-it = behindNext (h .«next_header») (chain (w .left) ctx (within h)) s to
 
     inner : (r q : Walked) (n : List ℕ) → Walks r v (behindNext (h .«next_header») (chain (v .left) ctx (around v)) s to) l n → r ≡ q → Walks q (entered h w) behind-it l n
-    inner r q n X k = subst (λ z. Walks q z (behindNext (h .«next_header») (chain (z .left) ctx (around z)) s to) l n) a (subst (λ z. Walks z v (behindNext (h .«next_header») (chain (v .left) ctx (around v)) s to) l n) k X)
+    inner r q n X k = subst (λ m. Walks q (entered h w) m l n) (next-same (h .«next_header») (w .left) ctx (around (entered h w)) (within h) s to refl refl refl)
+        (subst (λ z. Walks q z (behindNext (h .«next_header») (chain (z .left) ctx (around z)) s to) l n) a (subst (λ z. Walks z v (behindNext (h .«next_header») (chain (v .left) ctx (around v)) s to) l n) k X))
 
     pub header-on : (r : Walked) (len : ℕ) (u : UdpSum) (x z : ℕ) (n o : List ℕ) → x ≡ nextNumber (h .«next_header») s to → z ≡ totalOf (w .size) len - (w .at + 40) → Walks r v (behindNext (h .«next_header») (chain (v .left) ctx (around v)) s to) l n → r ≡ Walked.End len u → o ≡ put (w .at) (ipv6With h x z) n → Headers (Walked.End len u) o
     unfolding headerThen

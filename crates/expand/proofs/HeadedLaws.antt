@@ -24,12 +24,12 @@ use Rattle.iphc.specs.declared.header.Repr.{Repr}
 use Rattle.iphc.specs.declared.header.Parsed.{Parsed}
 use Rattle.expand.specs.Full.{ipv6With, udpFull}
 use Rattle.expand.specs.Expand.{Expansion, measureOf, finished, finishedIn, bytesOf, sized, expansion, headed, measured, answered, written}
-use Rattle.expand.specs.Chain.{Chain, rest, udpThen, extension, ipv6, within, behindNext, headerThen, chain, chained, nextNumber, headNumber, fullSize, extFull, sizeOf, fullBytes, sumIn, outer, ofWalked, ending, endOf, totalIn, Lays, Walks, totalOf, Measure}
+use Rattle.expand.specs.Chain.{Chain, rest, udpThen, extension, ipv6, within, behindNext, headerThen, chain, chained, nextNumber, headNumber, fullSize, extFull, sizeOf, fullBytes, sumIn, around, outer, ofWalked, ending, endOf, totalIn, Lays, Walks, totalOf, Measure}
 use Rattle.expand.specs.declared.checksum.UdpSum.{UdpSum}
 use Rattle.expand.specs.declared.chain.Walked.{Walked}
 use Rattle.expand.proofs.FullLaws.{length-ipv6, length-udp, length-ext}
 use Rattle.expand.proofs.ExpandLaws.{finished-length, finished-front, over-is}
-use Rattle.expand.proofs.ChainLaws.{number-read, next-size}
+use Rattle.expand.proofs.ChainLaws.{number-read, next-size, next-same}
 
 -- ---- a chain's bytes are as many as it says
 pub length-full : (t o : ℕ) (c : Chain) → length (fullBytes t o c) ≡ sizeOf c
@@ -83,7 +83,10 @@ module _ (ctx : List ℕ) (size : WordField) (h : Repr) (s : List ℕ) (at : ℕ
   headed-ended (is p) room = ended size h (p .value) room
   headed-ended (refused n) room = refl
 
-  module _ (y : Walked) (room n : List ℕ) (W : Walks y (outer h size) behindOuter room n) where
+  module _ (y : Walked) (room n : List ℕ) (X : Walks y (outer h size) (behindNext (h .«next_header») (chain 7 ctx (around (outer h size))) s at) room n) where
+    W : Walks y (outer h size) behindOuter room n
+    W = subst (λ m. Walks y (outer h size) m room n) (next-same (h .«next_header») 7 ctx (around (outer h size)) (within h) s at refl refl refl) X
+
     answer-is : ofWalked y ≡ answered (headed ctx size h s at) room
     unfolding headed
     answer-is = W .answer ∙ headed-ended behindOuter room

@@ -264,8 +264,13 @@ ofLink (Step.Extension n next from to) s = got (extLink n (take (to - from) (dro
 ofLink (Step.Inner n) s = got innerLink n
 ofLink (Step.Refused e) s = refused (Refusal.numberOf e)
 
+-- the link-layer address that has an identifier: `inside` of an address that has it
+abbrev pub identified : ℕ → AddressField
+identified i = AddressField.Some (Extended (flip57 i))
+
+-- of the addresses outside the code keeps the identifiers: what is inside does not depend on their prefixes (`chain-same`, proofs/ChainLaws.antt)
 abbrev pub around : Way → Around
-around w = record { src = w .src; dst = w .dst; routed = w .routed }
+around w = record { src = record { prefix = 0; iid = w .src }; dst = record { prefix = 0; iid = w .dst }; routed = w .routed }
 
 -- behind an extension header of the number n, with len bytes behind its first two; inside an IPv6 header; and with one header fewer to come
 abbrev pub passed : ℕ → ℕ → Way → Way
@@ -280,11 +285,11 @@ passed n len w = record {
 }
 
 abbrev pub entered : Repr → Way → Way
-entered h w = record { src = h .«src_addr»; dst = h .«dst_addr»; routed = false; left = w .left; ip = w .at; at = w .at + 40; size = w .size }
+entered h w = record { src = h .«src_addr» .iid; dst = h .«dst_addr» .iid; routed = false; left = w .left; ip = w .at; at = w .at + 40; size = w .size }
 
 -- behind the outer IPv6 header, where seven headers more may come; size: that of the whole datagram where the frame is its first part
 abbrev pub outer : Repr → WordField → Way
-outer h size = record { src = h .«src_addr»; dst = h .«dst_addr»; routed = false; left = 7; ip = 0; at = 40; size = size }
+outer h size = record { src = h .«src_addr» .iid; dst = h .«dst_addr» .iid; routed = false; left = 7; ip = 0; at = 40; size = size }
 
 abbrev pub fewer : Way → Way
 fewer w = record { src = w .src; dst = w .dst; routed = w .routed; left = w .left - 1; ip = w .ip; at = w .at; size = w .size }

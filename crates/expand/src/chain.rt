@@ -10,7 +10,7 @@ ghost use Rattle.octets.specs.Read.{got};
 ghost use Rattle.octets.specs.Write.{put};
 ghost use Rattle.expand.specs.Full.{isAbsent};
 ghost use Rattle.expand.specs.Chain.{fullNumber, isPadded, badLength, fullSize, idAt, extKind, extData, extBody};
-ghost use Rattle.expand.specs.Chain.{innerByte, udpStep, link, inside, headerThen, behindNext, udpEnd, chain};
+ghost use Rattle.expand.specs.Chain.{innerByte, udpStep, link, identified, headerThen, behindNext, udpEnd, chain};
 ghost use Rattle.expand.specs.Chain.{nextNumber, sumFor, passed, entered, fewer, ofLink, around, rest, totalOf, totalIn, ofTotal};
 ghost use Rattle.expand.specs.Chain.{Walks};
 use super::checksum::UdpSum;
@@ -28,7 +28,6 @@ use octets::cursor::ByteRead;
 use octets::cursor::Cursor;
 use octets::cursor::Skipped;
 use octets::field::WordField;
-use octets::ipv6::Ipv6Addr;
 use octets::refusal::Refusal;
 use sixlowpan::NextHeader;
 use sixlowpan::nhc::ExtHeaderId;
@@ -53,12 +52,13 @@ pub enum Step {
     Refused(Refusal),
 }
 
-// How far an expansion has come: the addresses of the IPv6 header just outside, whether a routing header came since,
-// how many headers may still come, and in the datagram where that IPv6 header stands and where the next header goes;
-// `size` is the size of the whole datagram where the frame is its first part.
+// How far an expansion has come: the identifiers of the addresses of the IPv6 header just outside, whether a routing
+// header came since, how many headers may still come, and in the datagram where that IPv6 header stands and where the
+// next header goes; `size` is the size of the whole datagram where the frame is its first part. There is one for each
+// header on the stack, so it has nothing that is not read.
 pub struct Way {
-    pub src: Ipv6Addr,
-    pub dst: Ipv6Addr,
+    pub src: u64,
+    pub dst: u64,
     pub routed: bool,
     pub left: u8,
     pub ip: u16,
@@ -234,11 +234,10 @@ fn read_step(frame: &[u8], c: Cursor, left: u8) -> Step
     }
 }
 
-// The link-layer address whose identifier is that of an IPv6 address: the universal/local bit is inverted.
-fn inside(a: Ipv6Addr) -> AddressField
-    ensures { λ r. ⌜ r ≡ inside a ⌝ }
+// The link-layer address that has an identifier: the universal/local bit is inverted.
+fn inside(i: u64) -> AddressField
+    ensures { λ r. ⌜ r ≡ identified i ⌝ }
 {
-    let i = a.iid;
     if i / 0x200_0000_0000_0000 % 2 == 0 {
         return AddressField::Some(Address::Extended(i + 0x200_0000_0000_0000));
     }
@@ -391,8 +390,8 @@ impl Way {
         let dst = ip.dst_addr;
         let size = self.size;
         Way {
-            src,
-            dst,
+            src: src.iid,
+            dst: dst.iid,
             routed: false,
             left: self.left,
             ip: self.at,
@@ -425,12 +424,10 @@ fn is_routed(number: u8, routed: bool) -> bool
 // An IPv6 header inside another one, and the chain behind it.
 pub(crate) fn header(frame: &[u8], c: Cursor, contexts: &[u8], w: Way, out: &mut [u8]) -> Walked
     requires { ⌜ (w .at + 40 * (w .left + 1) + (length (now frame) - c .at) ≤ 447) × (length (now frame) ≤ 127) ⌝ }
-    ensures { λ r. ⌜ Walks r w (headerThen (now (contexts .entry)) (inside (w .src)) (inside (w .dst))
+    ensures { λ r. ⌜ Walks r w (headerThen (now (contexts .entry)) (identified (w .src)) (identified (w .dst))
         (chain (w .left) (now (contexts .entry))) (now (frame .entry)) (c .at)) (now (out .entry)) (now (out .exit)) ⌝ }
 {
-    let src = w.src;
-    let dst = w.dst;
-    match Repr::read(frame, c, inside(src), inside(dst), contexts) {
+    match Repr::read(frame, c, inside(w.src), inside(w.dst), contexts) {
         Parsed::Header(ip, d) => {
             let next = ip.next_header;
             let o = w.at;

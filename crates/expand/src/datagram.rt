@@ -61,8 +61,8 @@ fn expand_headed(
     let src = ip.src_addr;
     let dst = ip.dst_addr;
     let w = Way {
-        src,
-        dst,
+        src: src.iid,
+        dst: dst.iid,
         routed: false,
         left: 7,
         ip: 0,

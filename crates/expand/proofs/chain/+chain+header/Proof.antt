@@ -902,7 +902,7 @@ header-within-requires : (t : ℕ) → header-lts.Need-within-requires (
   put-ipv6-reads.Asked,
   put-ipv6-reads.Learnt,
 ) (header-at t) header.Post
-header-within-requires t c κs = omega (arith, c .before .before .before .before .before .before .before .before .before .before .before .pre .1)
+header-within-requires t c κs = omega (arith, c .before .before .before .before .before .before .before .before .before .pre .1)
 
 -- src/chain.rt:439:19
 header-chain-requires : (t : ℕ) → header-lts.Need-chain-requires (
@@ -923,7 +923,7 @@ header-chain-requires : (t : ℕ) → header-lts.Need-chain-requires (
   put-ipv6-reads.Asked,
   put-ipv6-reads.Learnt,
 ) (header-at t) header.Post
-header-chain-requires t c κs = omega (arith, header-facts _ (now (c .before .before .before .before .before .before .before .before .before .before .before .before .before .args .frame)) _ _ (c .before .before .before .before .before .before .before .before .before .before .before .before .before .args .c .at) (c .before .before .before .before .before .read .ensures) (c .before .before .before .ip .given .1), c .before .before .before .before .before .before .before .before .before .before .before .before .before .pre, ap (λ z. z .at) (c .before .within .ensures), ap (λ z. z .left) (c .before .within .ensures))
+header-chain-requires t c κs = omega (arith, header-facts _ (now (c .before .before .before .before .before .before .before .before .before .before .before .args .frame)) _ _ (c .before .before .before .before .before .before .before .before .before .before .before .args .c .at) (c .before .before .before .before .before .read .ensures) (c .before .before .before .ip .given .1), c .before .before .before .before .before .before .before .before .before .before .before .pre, ap (λ z. z .at) (c .before .within .ensures), ap (λ z. z .left) (c .before .within .ensures))
 
 -- src/chain.rt:440:31
 header-enum-known-len : (t : ℕ) → header-lts.Need-enum-known-len (
@@ -986,7 +986,7 @@ header-cast-put-ipv6 : (t : ℕ) → header-lts.Need-cast-put-ipv6 (
   put-ipv6-reads.Asked,
   put-ipv6-reads.Learnt,
 ) (header-at t) header.Post
-header-cast-put-ipv6 t c = omega (arith, c .before .before .before .before .before .before .before .before .before .before .before .before .before .before .before .before .before .before .before .before .before .pre .1)
+header-cast-put-ipv6 t c = omega (arith, c .before .before .before .before .before .before .before .before .before .before .before .before .before .before .before .before .before .before .before .pre .1)
 
 -- src/chain.rt:447:30
 header-total-of-requires : (t : ℕ) → header-lts.Need-total-of-requires (
@@ -1028,7 +1028,7 @@ header-add-less : (t : ℕ) → header-lts.Need-add-less (
   put-ipv6-reads.Asked,
   put-ipv6-reads.Learnt,
 ) (header-at t) header.Post
-header-add-less t c = omega (arith, c .before .before .before .before .before .before .before .before .before .before .before .before .before .before .before .before .before .before .before .before .before .before .pre .1)
+header-add-less t c = omega (arith, c .before .before .before .before .before .before .before .before .before .before .before .before .before .before .before .before .before .before .before .before .pre .1)
 
 -- src/chain.rt:447:25
 header-less-requires : (t : ℕ) → header-lts.Need-less-requires (
@@ -1070,7 +1070,7 @@ header-put-ipv6-requires : (t : ℕ) → header-lts.Need-put-ipv6-requires (
   put-ipv6-reads.Asked,
   put-ipv6-reads.Learnt,
 ) (header-at t) header.Post
-header-put-ipv6-requires t c κs = omega (arith, c .before .before .before .before .before .before .before .before .before .before .before .before .before .before .before .before .before .before .before .before .before .before .before .pre .1)
+header-put-ipv6-requires t c κs = omega (arith, c .before .before .before .before .before .before .before .before .before .before .before .before .before .before .before .before .before .before .before .before .before .pre .1)
 
 -- src/chain.rt:451:33
 header-enum-known-e : (t : ℕ) → header-lts.Need-enum-known-e (
@@ -1154,7 +1154,7 @@ header-returns : (t : ℕ) → header-lts.Need-returns (
   put-ipv6-reads.Asked,
   put-ipv6-reads.Learnt,
 ) (header-at t) header.Post
-header-returns t c = header-on (c .before .before .before .before .before .before .before .before .before .before .before .before .before .before .before .before .before .before .before .before .before .before .before .before .before .before .args .w) (now (c .before .before .before .before .before .before .before .before .before .before .before .before .before .before .before .before .before .before .before .before .before .before .before .before .before .before .args .contexts)) (now (c .before .before .before .before .before .before .before .before .before .before .before .before .before .before .before .before .before .before .before .before .before .before .before .before .before .before .args .frame)) (now (c .before .before .before .before .before .before .before .before .before .before .before .before .before .before .before .before .before .before .before .before .before .before .before .before .before .before .args .out)) _ _ (c .before .before .before .before .before .before .before .before .before .before .before .before .before .before .before .before .before .before .before .before .before .before .before .before .before .before .args .c .at) _ (c .before .before .before .before .before .before .before .before .before .before .before .before .before .before .before .before .before .before .before .before .inside .ensures) (c .before .before .before .before .before .before .before .before .before .before .before .before .before .before .before .before .before .before .before .inside2 .ensures) (c .before .before .before .before .before .before .before .before .before .before .before .before .before .before .before .before .before .before .read .ensures) _ _ _ (c .before .before .before .before .before .before .before .before .before .before .before .before .before .before .before .before .ip .given .1) (c .before .before .before .before .before .before .before .before .before .before .before .before .before .before .within .ensures) _ _ _ _ _ _ _ (c .before .before .before .before .before .before .next-number .ensures) (c .before .before .before .less .ensures ∙ ap (λ z. z - (c .before .before .before .before .before .before .before .before .before .before .before .before .before .before .before .before .before .before .before .before .before .before .before .before .before .before .args .w .at + 40)) (c .before .before .before .before .total-of .ensures)) (c .before .before .before .before .before .before .before .before .before .before .before .before .chain .ensures) (c .before .before .before .before .before .before .before .before .len .given .1) (c .before .before .put-ipv6 .ensures)
+header-returns t c = header-on (c .before .before .before .before .before .before .before .before .before .before .before .before .before .before .before .before .before .before .before .before .before .before .before .before .args .w) (now (c .before .before .before .before .before .before .before .before .before .before .before .before .before .before .before .before .before .before .before .before .before .before .before .before .args .contexts)) (now (c .before .before .before .before .before .before .before .before .before .before .before .before .before .before .before .before .before .before .before .before .before .before .before .before .args .frame)) (now (c .before .before .before .before .before .before .before .before .before .before .before .before .before .before .before .before .before .before .before .before .before .before .before .before .args .out)) _ _ (c .before .before .before .before .before .before .before .before .before .before .before .before .before .before .before .before .before .before .before .before .before .before .before .before .args .c .at) _ (c .before .before .before .before .before .before .before .before .before .before .before .before .before .before .before .before .before .before .before .before .inside .ensures) (c .before .before .before .before .before .before .before .before .before .before .before .before .before .before .before .before .before .before .before .inside2 .ensures) (c .before .before .before .before .before .before .before .before .before .before .before .before .before .before .before .before .before .before .read .ensures) _ _ _ (c .before .before .before .before .before .before .before .before .before .before .before .before .before .before .before .before .ip .given .1) (c .before .before .before .before .before .before .before .before .before .before .before .before .before .before .within .ensures) _ _ _ _ _ _ _ (c .before .before .before .before .before .before .next-number .ensures) (c .before .before .before .less .ensures ∙ ap (λ z. z - (c .before .before .before .before .before .before .before .before .before .before .before .before .before .before .before .before .before .before .before .before .before .before .before .before .args .w .at + 40)) (c .before .before .before .before .total-of .ensures)) (c .before .before .before .before .before .before .before .before .before .before .before .before .chain .ensures) (c .before .before .before .before .before .before .before .before .len .given .1) (c .before .before .put-ipv6 .ensures)
 
 -- src/chain.rt:427:1
 header-same-length-2 : (t : ℕ) → header-lts.Need-same-length-2 (
