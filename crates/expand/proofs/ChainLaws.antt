@@ -39,8 +39,9 @@ use Rattle.iphc.specs.declared.header.Parsed.{Parsed}
 use Rattle.iphc.proofs.Lengths.{iphc-length}
 use Rattle.expand.specs.Full.{isAbsent, ipv6With, udpFull}
 use Rattle.expand.specs.Sum.{noSum}
-use Rattle.expand.specs.Chain.{Chain, rest, udpThen, extension, ipv6, Link, udpLink, extLink, innerLink, Around, fullNumber, badLength, octets, extData, extBody, innerByte, extKind, idAt, udpStep, linkOf, link, within, past, inside, identified, behindNext, headerThen, udpEnd, onward, chain, nhcNumber, nextNumber, headNumber, fullSize, extFull, sizeOf, fullBytes, sumFor, sumIn, ofLink, around, passed, entered, fewer, ofWalked, endOf, Lays, Walks, totalOf, totalIn, ofTotal, ending, Measure}
+use Rattle.expand.specs.Chain.{Chain, rest, udpThen, extension, ipv6, Link, udpLink, extLink, innerLink, Around, fullNumber, badLength, octets, extData, extBody, innerByte, extKind, idAt, udpStep, linkOf, link, within, past, inside, identified, behindNext, headerThen, udpEnd, onward, chain, nhcNumber, nextNumber, headNumber, fullSize, extFull, sizeOf, fullBytes, sumFor, sumIn, extOf, ofLink, around, passed, entered, fewer, ofWalked, endOf, Lays, Walks, totalOf, totalIn, ofTotal, ending, Measure}
 use Rattle.expand.specs.declared.checksum.UdpSum.{UdpSum}
+use Rattle.expand.specs.declared.chain.Extension.{Extension}
 use Rattle.expand.specs.declared.chain.Step.{Step}
 use Rattle.expand.specs.declared.chain.Way.{Way}
 use Rattle.expand.specs.declared.chain.Walked.{Walked}
@@ -538,39 +539,40 @@ module _ (w : Way) (ctx s l : List ℕ) (at : ℕ) where
       subst (λ z. Walks r w z l o) (ap (λ z. headerThen ctx (identified (w .src)) (identified (w .dst)) z s n) (sym (shorter-is (w .left) ctx k)) ∙ step-is next y innerLink n q p (ap (λ z. ofLink z s) g))
       (fewer-go r w (headerThen ctx (identified (w .src)) (identified (w .dst)) (chain (w .left - 1) ctx) s n) l o W)
 
-  -- behind an extension header, from the place `to` on
-  module _ (next then : NextHeader) (y : Step) (x from to len : ℕ) (v : Way) (q : next ≡ Compressed) (p : ofLink y s ≡ link (w .left) s at) (g : y ≡ Step.Extension x then from to) (e : len ≡ to - from) (i : v ≡ passed x len w) where
-    abbrev carried : List ℕ
-    carried = take (to - from) (drop from s)
+  pub chain-ext : (r : Walked) (o : List ℕ) (next : NextHeader) (y : Step) (x : Extension) → next ≡ Compressed → ofLink y s ≡ link (w .left) s at → y ≡ Step.Extension x
+      → Walks r w (onward ctx (chain (w .left - 1) ctx) (around w) (extOf x s) s (x .to)) l o → Chains r next o
+  chain-ext r o next y x q p g W =
+      let k : 1 ≤ w .left = link-steps (w .left) s at (extOf x s) (x .to) (sym p ∙ ap (λ z. ofLink z s) g) .wants in
+      subst (λ z. Walks r w z l o) (ap (λ z. onward ctx z (around w) (extOf x s) s (x .to)) (sym (shorter-is (w .left) ctx k)) ∙ step-is next y (extOf x s) (x .to) q p (ap (λ z. ofLink z s) g)) W
 
-    abbrev rests : Read Chain
-    rests = behindNext then (chain (w .left - 1) ctx (past x (around w))) s to
+-- an extension header that ends within the frame
+module _ (w : Way) (ctx s l : List ℕ) (x : Extension) (len : ℕ) (v : Way) (fits : x .to ≤ length s) (e : len ≡ x .to - x .from) (i : v ≡ passed (x .number) len w) where
+  abbrev carried : List ℕ
+  carried = take (x .to - x .from) (drop (x .from) s)
 
-    facts : Steps (extLink x carried then) (w .left) s at to
-    facts = link-steps (w .left) s at (extLink x carried then) to (sym p ∙ ap (λ z. ofLink z s) g)
+  abbrev rests : Read Chain
+  rests = behindNext (x .next) (chain (w .left - 1) ctx (past (x .number) (around w))) s (x .to)
 
-    long : len ≡ length carried
-    long = e ∙ sym (taken-length s from (to - from) (omega (arith, facts .ends)))
+  abbrev Behind : Walked → List ℕ → Type 0
+  Behind r o = Walks r w (onward ctx (chain (w .left - 1) ctx) (around w) (extOf x s) s (x .to)) l o
 
-    within-it : (r : Walked) (n : List ℕ) → Walks r v (behindNext then (chain (v .left) ctx (around v)) s to) l n → Walks r (passed x (length carried) w) rests l n
-    within-it r n X =
-        let W : Walks r (passed x len w) rests l n = subst (λ z. Walks r z (behindNext then (chain (z .left) ctx (around z)) s to) l n) i X in
-        subst (λ z. Walks r (passed x z w) rests l n) long W
+  long : len ≡ length carried
+  long = e ∙ sym (taken-length s (x .from) (x .to - x .from) (omega (arith, fits)))
 
-    whole-is : andThen rests (λ p. got (extension x carried (p .value)) (p .next)) ≡ behindNext next (chain (w .left) ctx (around w)) s at
-    unfolding onward
-    whole-is = ap (λ z. andThen (behindNext then (z (past x (around w))) s to) (λ p. got (extension x carried (p .value)) (p .next))) (sym (shorter-is (w .left) ctx (facts .wants))) ∙ step-is next y (extLink x carried then) to q p (ap (λ z. ofLink z s) g)
+  within-it : (r q : Walked) (n : List ℕ) → Walks r v (behindNext (x .next) (chain (v .left) ctx (around v)) s (x .to)) l n → r ≡ q → Walks q (passed (x .number) (length carried) w) rests l n
+  within-it r q n X j =
+      let Y : Walks q v (behindNext (x .next) (chain (v .left) ctx (around v)) s (x .to)) l n = subst (λ t. Walks t v (behindNext (x .next) (chain (v .left) ctx (around v)) s (x .to)) l n) j X in
+      let W : Walks q (passed (x .number) len w) rests l n = subst (λ z. Walks q z (behindNext (x .next) (chain (z .left) ctx (around z)) s (x .to)) l n) i Y in
+      subst (λ z. Walks q (passed (x .number) z w) rests l n) long W
 
-    pub chain-ext : (r : Walked) (k : ℕ) (u : UdpSum) (z : ℕ) (n o : List ℕ) → z ≡ nextNumber then s to → Walks r v (behindNext then (chain (v .left) ctx (around v)) s to) l n → r ≡ Walked.End k u → o ≡ put (w .at) (extFull z (take len (drop from s))) n → Chains (Walked.End k u) next o
-    chain-ext r k u z n o f X j a =
-        let W : Walks (Walked.End k u) (passed x (length carried) w) rests l n = within-it (Walked.End k u) n (subst (λ t. Walks t v (behindNext then (chain (v .left) ctx (around v)) s to) l n) j X) in
-        subst (λ t. Walks (Walked.End k u) w t l o) whole-is
-        (walks-ext-go k u w x z carried rests l n o (λ c j h. f ∙ number-read then (w .left - 1) ctx (past x (around w)) s to c j h) W (a ∙ ap (λ t. put (w .at) (extFull z (take t (drop from s))) n) e))
+  pub behind-on : (r : Walked) (k : ℕ) (u : UdpSum) (z : ℕ) (n o : List ℕ) → z ≡ nextNumber (x .next) s (x .to) → Walks r v (behindNext (x .next) (chain (v .left) ctx (around v)) s (x .to)) l n → r ≡ Walked.End k u → o ≡ put (w .at) (extFull z (take len (drop (x .from) s))) n → Behind (Walked.End k u) o
+  unfolding onward
+  behind-on r k u z n o f X j a =
+      walks-ext-go k u w (x .number) z carried rests l n o (λ c j h. f ∙ number-read (x .next) (w .left - 1) ctx (past (x .number) (around w)) s (x .to) c j h) (within-it r (Walked.End k u) n X j) (a ∙ ap (λ t. put (w .at) (extFull z (take t (drop (x .from) s))) n) e)
 
-    pub chain-ext-no : (r : Walked) (d : Refusal) (n : List ℕ) → Walks r v (behindNext then (chain (v .left) ctx (around v)) s to) l n → r ≡ Walked.Refused d → Chains (Walked.Refused d) next n
-    chain-ext-no r d n X j =
-        let W : Walks (Walked.Refused d) (passed x (length carried) w) rests l n = within-it (Walked.Refused d) n (subst (λ t. Walks t v (behindNext then (chain (v .left) ctx (around v)) s to) l n) j X) in
-        subst (λ t. Walks (Walked.Refused d) w t l n) whole-is (walks-ext-no d w x carried rests l n W)
+  pub behind-no : (r : Walked) (d : Refusal) (n : List ℕ) → Walks r v (behindNext (x .next) (chain (v .left) ctx (around v)) s (x .to)) l n → r ≡ Walked.Refused d → Behind (Walked.Refused d) n
+  unfolding onward
+  behind-no r d n X j = walks-ext-no d w (x .number) carried rests l n (within-it r (Walked.Refused d) n X j)
 
 -- an IPv6 header
 module _ (w : Way) (ctx s l : List ℕ) (ls ld : AddressField) (at : ℕ) (y : Parsed) (i : ls ≡ identified (w .src)) (j : ld ≡ identified (w .dst)) (p : ofParsed y ≡ iphc ctx ls ld s at) where
@@ -603,10 +605,10 @@ module _ (w : Way) (ctx s l : List ℕ) (ls ld : AddressField) (at : ℕ) (y : P
     header-no r e n X k = rw (← i, ← j, sym p ∙ ap ofParsed g) (walks-ipv6-no e w h behind-it l n (inner r (Walked.Refused e) n X k))
 
 -- ---- how far a step in code reads
-pub ext-facts : {y : Step} {x from to : ℕ} {then : NextHeader} (left : ℕ) (s : List ℕ) (at : ℕ) → ofLink y s ≡ link left s at → y ≡ Step.Extension x then from to → (at + 2 + (to - from) ≤ to) × (to ≤ length s) × (1 ≤ left)
-ext-facts {x = x} {from = from} {to = to} {then = then} left s at p g =
-    let t = link-steps left s at (extLink x (take (to - from) (drop from s)) then) to (sym p ∙ ap (λ z. ofLink z s) g) in
-    let k : length (take (to - from) (drop from s)) ≡ to - from = taken-length s from (to - from) (omega (arith, t .ends)) in
+pub ext-facts : {y : Step} {x : Extension} (left : ℕ) (s : List ℕ) (at : ℕ) → ofLink y s ≡ link left s at → y ≡ Step.Extension x → (at + 2 + (x .to - x .from) ≤ x .to) × (x .to ≤ length s) × (1 ≤ left)
+ext-facts {x = x} left s at p g =
+    let t = link-steps left s at (extOf x s) (x .to) (sym p ∙ ap (λ z. ofLink z s) g) in
+    let k : length (take (x .to - x .from) (drop (x .from) s)) ≡ x .to - x .from = taken-length s (x .from) (x .to - x .from) (omega (arith, t .ends)) in
     (omega (arith, t .reach, k), t .ends, t .wants)
 
 pub inner-facts : {y : Step} {n : ℕ} (left : ℕ) (s : List ℕ) (at : ℕ) → ofLink y s ≡ link left s at → y ≡ Step.Inner n → (at < n) × (n ≤ length s) × (1 ≤ left)

@@ -31,6 +31,7 @@ use Rattle.expand.specs.Sum.{noSum, elidedAt, carriedAt}
 use Rattle.expand.specs.Full.{ipv6With, udpFull, isAbsent}
 use Rattle.expand.specs.Rfc8200.{Last}
 use Rattle.expand.specs.declared.checksum.UdpSum.{UdpSum}
+use Rattle.expand.specs.declared.chain.Extension.{Extension}
 use Rattle.expand.specs.declared.chain.Step.{Step}
 use Rattle.expand.specs.declared.chain.Way.{Way}
 use Rattle.expand.specs.declared.chain.Walked.{Walked}
@@ -257,10 +258,13 @@ lastOf (extension n d c) = lastOf c
 lastOf (ipv6 h c) = lastOf c
 
 -- ---- what the contracts say
--- a step of the code, in the frame s
+-- an extension header that was read, and a step of the code, in the frame s
+abbrev pub extOf : Extension → List ℕ → Link
+extOf x s = extLink (x .number) (take (x .to - x .from) (drop (x .from) s)) (x .next)
+
 abbrev pub ofLink : Step → List ℕ → Read Link
 ofLink (Step.Udp h n) s = got (udpLink h) n
-ofLink (Step.Extension n next from to) s = got (extLink n (take (to - from) (drop from s)) next) to
+ofLink (Step.Extension x) s = got (extOf x s) (x .to)
 ofLink (Step.Inner n) s = got innerLink n
 ofLink (Step.Refused e) s = refused (Refusal.numberOf e)
 

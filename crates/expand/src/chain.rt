@@ -12,7 +12,7 @@ ghost use Rattle.expand.specs.Full.{isAbsent};
 ghost use Rattle.expand.specs.Chain.{fullNumber, isPadded, badLength, fullSize, idAt, extKind, extData, extBody};
 ghost use Rattle.expand.specs.Chain.{innerByte, udpStep, link, identified, headerThen, behindNext, udpEnd, chain};
 ghost use Rattle.expand.specs.Chain.{nextNumber, sumFor, passed, entered, fewer, ofLink, around, rest, totalOf, totalIn, ofTotal};
-ghost use Rattle.expand.specs.Chain.{Walks};
+ghost use Rattle.expand.specs.Chain.{Walks, onward, extOf};
 use super::checksum::UdpSum;
 use super::copy::left;
 use super::copy::put_slice;
@@ -38,16 +38,19 @@ use sixlowpan::nhc::NhcPacket;
 use sixlowpan::nhc::UdpNhcRepr;
 use sixlowpan::nhc::UdpParsed;
 
-// What stands at a place of a chain, and the place behind it: a UDP header; an extension header, its number, its next
-// header field and where what follows its first two bytes stands; or the byte in front of an IPv6 header.
+// An extension header: its number, its next header field, and where in the frame what follows its first two bytes stands.
+pub struct Extension {
+    pub number: u8,
+    pub next: NextHeader,
+    pub from: usize,
+    pub to: usize,
+}
+
+// What stands at a place of a chain, and the place behind it: a UDP header, an extension header, or the byte in front of
+// an IPv6 header.
 pub enum Step {
     Udp(UdpNhcRepr, usize),
-    Extension {
-        number: u8,
-        next: NextHeader,
-        from: usize,
-        to: usize,
-    },
+    Extension(Extension),
     Inner(usize),
     Refused(Refusal),
 }
@@ -167,12 +170,12 @@ fn read_data(frame: &[u8], id: ExtHeaderId, h: ExtHeaderRepr, c: Cursor) -> Step
     let next = h.next_header;
     let number = number_of(id);
     match c.skip(frame, h.length as usize) {
-        Skipped::Past(d) => Step::Extension {
+        Skipped::Past(d) => Step::Extension(Extension {
             number,
             next,
             from: c.at,
             to: d.at,
-        },
+        }),
         Skipped::Refused(e) => Step::Refused(e),
     }
 }
@@ -451,6 +454,34 @@ pub(crate) fn header(frame: &[u8], c: Cursor, contexts: &[u8], w: Way, out: &mut
     }
 }
 
+// An extension header, and the chain behind it. It is a function of its own, as `header` is, so that the two share their
+// place on the stack in each round of `chain`.
+fn behind(frame: &[u8], x: Extension, contexts: &[u8], w: Way, out: &mut [u8]) -> Walked
+    requires { ⌜ (w .at + 40 * w .left + (x .to - x .from) + (length (now frame) - x .to) ≤ 447) × (1 ≤ w .left)
+        × (x .to ≤ length (now frame)) × (length (now frame) ≤ 127) ⌝ }
+    ensures { λ r. ⌜ Walks r w (onward (now (contexts .entry)) (chain (w .left - 1) (now (contexts .entry))) (around w)
+        (extOf x (now (frame .entry))) (now (frame .entry)) (x .to)) (now (out .entry)) (now (out .exit)) ⌝ }
+{
+    let next = x.next;
+    let o = w.at;
+    let n = span(x.from, x.to);
+    match chain(
+        frame,
+        next,
+        Cursor { at: x.to },
+        contexts,
+        w.past(x.number, n),
+        out,
+    ) {
+        Walked::End { len, sum } => {
+            let number = next_number(frame, next, x.to);
+            put_extension(out, o as usize, number, frame, x.from, n);
+            Walked::End { len, sum }
+        }
+        Walked::Refused(e) => Walked::Refused(e),
+    }
+}
+
 // What follows a next header field at a place of the frame: the payload, where it stood inline; else a compressed
 // header, and what follows that.
 pub(crate) fn chain(
@@ -469,35 +500,7 @@ pub(crate) fn chain(
         NextHeader::Uncompressed(_) => end_rest(frame, c.at, w, out),
         NextHeader::Compressed => match read_step(frame, c, w.left) {
             Step::Udp(h, n) => end_udp(frame, n, h, w, out),
-            Step::Extension {
-                number,
-                next: then,
-                from,
-                to,
-            } => {
-                let n = span(from, to);
-                match chain(
-                    frame,
-                    then,
-                    Cursor { at: to },
-                    contexts,
-                    w.past(number, n),
-                    out,
-                ) {
-                    Walked::End { len, sum } => {
-                        put_extension(
-                            out,
-                            w.at as usize,
-                            next_number(frame, then, to),
-                            frame,
-                            from,
-                            n,
-                        );
-                        Walked::End { len, sum }
-                    }
-                    Walked::Refused(e) => Walked::Refused(e),
-                }
-            }
+            Step::Extension(x) => behind(frame, x, contexts, w, out),
             Step::Inner(n) => header(frame, Cursor { at: n }, contexts, w.fewer(), out),
             Step::Refused(e) => Walked::Refused(e),
         },
