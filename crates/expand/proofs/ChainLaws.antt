@@ -37,18 +37,20 @@ use Rattle.iphc.specs.Answers.{ofParsed}
 use Rattle.iphc.specs.declared.header.Repr.{Repr}
 use Rattle.iphc.specs.declared.header.Parsed.{Parsed}
 use Rattle.iphc.proofs.Lengths.{iphc-length}
-use Rattle.expand.specs.Full.{isAbsent, ipv6With, udpFull}
+use Rattle.expand.specs.Full.{isAbsent, firstWord, ipv6With, udpFull, keep, keptFull}
 use Rattle.expand.specs.Sum.{noSum}
-use Rattle.expand.specs.Chain.{Chain, rest, udpThen, extension, ipv6, Link, udpLink, extLink, innerLink, Around, fullNumber, badLength, octets, extData, extBody, innerByte, extKind, idAt, udpStep, linkOf, link, within, past, inside, identified, behindNext, headerThen, udpEnd, onward, chain, nhcNumber, nextNumber, headNumber, fullSize, extFull, sizeOf, fullBytes, sumFor, sumIn, extOf, ofLink, around, passed, entered, fewer, ofWalked, endOf, Lays, Walks, totalOf, totalIn, ofTotal, ending, Measure}
+use Rattle.expand.specs.Chain.{Chain, rest, udpThen, extension, ipv6, Link, udpLink, extLink, innerLink, Around, fullNumber, badLength, octets, extData, extBody, innerByte, extKind, idAt, udpStep, linkOf, link, within, past, inside, identified, behindNext, headerThen, udpEnd, onward, chain, nhcNumber, nextNumber, headNumber, fullSize, extFull, sizeOf, fullBytes, sumFor, sumIn, extOf, ofLink, around, passed, entered, fewer, ofWalked, endOf, Lays, Walks, totalOf, totalIn, ofTotal, kept, ofKept, ending, Measure}
 use Rattle.expand.specs.declared.checksum.UdpSum.{UdpSum}
+use Rattle.expand.specs.declared.ip.Kept.{Kept}
 use Rattle.expand.specs.declared.chain.Extension.{Extension}
+use Rattle.expand.specs.declared.chain.KeptRead.{KeptRead}
 use Rattle.expand.specs.declared.chain.Step.{Step}
 use Rattle.expand.specs.declared.chain.Way.{Way}
 use Rattle.expand.specs.declared.chain.Walked.{Walked}
 use Rattle.expand.specs.declared.chain.TotalAnswer.{TotalAnswer}
 use Rattle.expand.proofs.Inverting.{invert, got-value, got-next, value-is}
 use Rattle.expand.proofs.CopyLaws.{before}
-use Rattle.expand.proofs.FullLaws.{length-ipv6, length-udp, length-ext, taken-length}
+use Rattle.expand.proofs.FullLaws.{length-ipv6, length-udp, length-ext, taken-length, kept-full}
 use Rattle.expand.proofs.ExpandLaws.{rest-told}
 
 -- ---- how far a step reads
@@ -481,11 +483,11 @@ walks-ext-no e w x d (refused k) l n W = record { answer = W .answer; bytes = W 
 walks-ext-no e w x d (is p) l n W = record { answer = W .answer ∙ ending-ext w x d (p .value) (length l); bytes = W .bytes }
 
 -- an IPv6 header likewise
-ending-ipv6 : (w : Way) (h : Repr) (c : Chain) (n : ℕ) → ending (entered h w) n c ≡ ending w n (ipv6 h c)
+ending-ipv6 : (w : Way) (h : Repr) (c : Chain) (n : ℕ) → ending (entered (h .«src_addr» .iid) (h .«dst_addr» .iid) w) n c ≡ ending w n (ipv6 h c)
 unfolding sizeOf sumIn
 ending-ipv6 w h c n = ap (λ z. andThen (totalIn (w .size) z n) (λ t. is (record { len = z; sum = sumIn false (w .at) (w .at + 40) c }))) (add-assoc (w .at) 40 (sizeOf c))
 
-walks-ipv6-go : (len : ℕ) (u : UdpSum) (w : Way) (h : Repr) (x y : ℕ) (m : Read Chain) (l n o : List ℕ) → y ≡ totalOf (w .size) len - (w .at + 40) → ((c : Chain) (k : ℕ) → m ≡ got c k → x ≡ headNumber c) → Walks (Walked.End len u) (entered h w) m l n → o ≡ put (w .at) (ipv6With h x y) n
+walks-ipv6-go : (len : ℕ) (u : UdpSum) (w : Way) (h : Repr) (x y : ℕ) (m : Read Chain) (l n o : List ℕ) → y ≡ totalOf (w .size) len - (w .at + 40) → ((c : Chain) (k : ℕ) → m ≡ got c k → x ≡ headNumber c) → Walks (Walked.End len u) (entered (h .«src_addr» .iid) (h .«dst_addr» .iid) w) m l n → o ≡ put (w .at) (ipv6With h x y) n
     → Walks (Walked.End len u) w (andThen m (λ p. got (ipv6 h (p .value)) (p .next))) l o
 unfolding fullBytes
 walks-ipv6-go len u w h x y (refused e) l n o q f W a = not-refused _ e (sym (W .answer))
@@ -498,7 +500,7 @@ walks-ipv6-go len u w h x y (is p) l n o q f W a =
       bytes = before l n o (w .at) 40 (ipv6With h (headNumber c) z) (fullBytes (totalOf (w .size) len) (w .at + 40) c) (length-ipv6 h (headNumber c) z) (W .bytes) a2;
     }
 
-walks-ipv6-no : (e : Refusal) (w : Way) (h : Repr) (m : Read Chain) (l n : List ℕ) → Walks (Walked.Refused e) (entered h w) m l n → Walks (Walked.Refused e) w (andThen m (λ p. got (ipv6 h (p .value)) (p .next))) l n
+walks-ipv6-no : (e : Refusal) (w : Way) (h : Repr) (m : Read Chain) (l n : List ℕ) → Walks (Walked.Refused e) (entered (h .«src_addr» .iid) (h .«dst_addr» .iid) w) m l n → Walks (Walked.Refused e) w (andThen m (λ p. got (ipv6 h (p .value)) (p .next))) l n
 walks-ipv6-no e w h (refused k) l n W = record { answer = W .answer; bytes = W .bytes }
 walks-ipv6-no e w h (is p) l n W = record { answer = W .answer ∙ ending-ipv6 w h (p .value) (length l); bytes = W .bytes }
 
@@ -574,35 +576,75 @@ module _ (w : Way) (ctx s l : List ℕ) (x : Extension) (len : ℕ) (v : Way) (f
   unfolding onward
   behind-no r d n X j = walks-ext-no d w (x .number) carried rests l n (within-it r (Walked.Refused d) n X j)
 
--- an IPv6 header
-module _ (w : Way) (ctx s l : List ℕ) (ls ld : AddressField) (at : ℕ) (y : Parsed) (i : ls ≡ identified (w .src)) (j : ld ≡ identified (w .dst)) (p : ofParsed y ≡ iphc ctx ls ld s at) where
+-- an IPv6 header, as it is kept
+module _ (ctx s : List ℕ) (ls ld : AddressField) (at : ℕ) (y : Parsed) (p : ofParsed y ≡ iphc ctx ls ld s at) where
+  pub kept-on : (h : Repr) (d : Cursor) (x w : ℕ) → y ≡ Parsed.Header h d → x ≡ nextNumber (h .«next_header») s (d .at) → w ≡ firstWord h
+      → is (record { src = h .«src_addr»; dst = h .«dst_addr»; first = w; number = x; hops = h .«hop_limit»; next = h .«next_header»; at = d .at }) ≡ kept ctx ls ld s at
+  kept-on h d x w g a b = rw (sym p ∙ ap ofParsed g, a, b) refl
+
+  pub kept-no : (e : Refusal) → y ≡ Parsed.Refused e → refused (numberOf e) ≡ kept ctx ls ld s at
+  kept-no e g = rw (sym p ∙ ap ofParsed g) refl
+
+pub record Known (ctx s : List ℕ) (ls ld : AddressField) (at : ℕ) (k : Kept) : Type 0 where
+  pub header : Repr
+  pub place : ℕ
+  pub are-read : iphc ctx ls ld s at ≡ got header place
+  pub is-kept : k ≡ keep header (nextNumber (header .«next_header») s place) place
+
+unread : {A B : Type 0} (m : Answer A) (f : A → B) (n : ℕ) → refused n ≡ andThen m (λ x. is (f x)) → m ≡ refused n
+unread (is x) f n e = not-refused _ n e
+unread (refused k) f n e = cc
+
+module _ (ctx s : List ℕ) (ls ld : AddressField) (at : ℕ) (y : KeptRead) (p : ofKept y ≡ kept ctx ls ld s at) where
+  pub known : (k : Kept) → y ≡ KeptRead.Header k → Known ctx s ls ld at k
+  known k g =
+      let i = invert (iphc ctx ls ld s at) (λ q. is (keep (q .value) (nextNumber (q .value .«next_header») s (q .next)) (q .next))) k (sym p ∙ ap ofKept g) in
+      record { header = i .value .value; place = i .value .next; are-read = i .first; is-kept = sym (value-is _ _ (i .second)) }
+
+  pub unknown : (e : Refusal) → y ≡ KeptRead.Refused e → iphc ctx ls ld s at ≡ refused (numberOf e)
+  unknown e g = unread (iphc ctx ls ld s at) (λ q. keep (q .value) (nextNumber (q .value .«next_header») s (q .next)) (q .next)) (numberOf e) (ap ofKept (sym g) ∙ p)
+
+module _ (w : Way) (ctx s l : List ℕ) (ls ld : AddressField) (at : ℕ) (y : KeptRead) (i : ls ≡ identified (w .src)) (j : ld ≡ identified (w .dst)) (p : ofKept y ≡ kept ctx ls ld s at) where
   abbrev Headers : Walked → List ℕ → Type 0
   Headers r o = Walks r w (headerThen ctx (identified (w .src)) (identified (w .dst)) (chain (w .left) ctx) s at) l o
 
-  pub header-refused : (e : Refusal) → y ≡ Parsed.Refused e → Headers (Walked.Refused e) l
+  pub header-refused : (e : Refusal) → y ≡ KeptRead.Refused e → Headers (Walked.Refused e) l
   unfolding headerThen
-  header-refused e g = rw (← i, ← j, sym p ∙ ap ofParsed g) (record { answer = refl; bytes = refl })
+  header-refused e g = rw (← i, ← j, unknown ctx s ls ld at y p e g) (record { answer = refl; bytes = refl })
 
-  module _ (h : Repr) (d : Cursor) (v : Way) (g : y ≡ Parsed.Header h d) (a : v ≡ entered h w) where
+  module _ (k : Kept) (v : Way) (g : y ≡ KeptRead.Header k) (a : v ≡ entered (k .src .iid) (k .dst .iid) w) where
+    abbrev h : Repr
+    h = known ctx s ls ld at y p k g .header
+
     abbrev to : ℕ
-    to = d .at
+    to = known ctx s ls ld at y p k g .place
+
+    abbrev number : ℕ
+    number = nextNumber (h .«next_header») s to
 
     abbrev behind-it : Read Chain
     behind-it = behindNext (h .«next_header») (chain (w .left) ctx (within h)) s to
 
-    inner : (r q : Walked) (n : List ℕ) → Walks r v (behindNext (h .«next_header») (chain (v .left) ctx (around v)) s to) l n → r ≡ q → Walks q (entered h w) behind-it l n
-    inner r q n X k = subst (λ m. Walks q (entered h w) m l n) (next-same (h .«next_header») (w .left) ctx (around (entered h w)) (within h) s to refl refl refl)
-        (subst (λ z. Walks q z (behindNext (h .«next_header») (chain (z .left) ctx (around z)) s to) l n) a (subst (λ z. Walks z v (behindNext (h .«next_header») (chain (v .left) ctx (around v)) s to) l n) k X))
+    same : k ≡ keep h number to
+    same = known ctx s ls ld at y p k g .is-kept
 
-    pub header-on : (r : Walked) (len : ℕ) (u : UdpSum) (x z : ℕ) (n o : List ℕ) → x ≡ nextNumber (h .«next_header») s to → z ≡ totalOf (w .size) len - (w .at + 40) → Walks r v (behindNext (h .«next_header») (chain (v .left) ctx (around v)) s to) l n → r ≡ Walked.End len u → o ≡ put (w .at) (ipv6With h x z) n → Headers (Walked.End len u) o
-    unfolding headerThen
-    header-on r len u x z n o f e X k b =
-        rw (← i, ← j, sym p ∙ ap ofParsed g)
-        (walks-ipv6-go len u w h x z behind-it l n o e (λ c m q. f ∙ number-read (h .«next_header») (w .left) ctx (within h) s to c m q) (inner r (Walked.End len u) n X k) b)
+    inner : (r q : Walked) (n : List ℕ) → Walks r v (behindNext (k .next) (chain (v .left) ctx (around v)) s (k .at)) l n → r ≡ q → Walks q (entered (h .«src_addr» .iid) (h .«dst_addr» .iid) w) behind-it l n
+    inner r q n X e =
+        let Y : Walks q v (behindNext (k .next) (chain (v .left) ctx (around v)) s (k .at)) l n = subst (λ z. Walks z v (behindNext (k .next) (chain (v .left) ctx (around v)) s (k .at)) l n) e X in
+        let Z : Walks q (entered (k .src .iid) (k .dst .iid) w) (behindNext (k .next) (chain (w .left) ctx (around (entered (k .src .iid) (k .dst .iid) w))) s (k .at)) l n = subst (λ z. Walks q z (behindNext (k .next) (chain (z .left) ctx (around z)) s (k .at)) l n) a Y in
+        subst (λ m. Walks q (entered (h .«src_addr» .iid) (h .«dst_addr» .iid) w) m l n) (next-same (h .«next_header») (w .left) ctx (around (entered (h .«src_addr» .iid) (h .«dst_addr» .iid) w)) (within h) s to refl refl refl)
+        (subst (λ z. Walks q (entered (z .src .iid) (z .dst .iid) w) (behindNext (z .next) (chain (w .left) ctx (around (entered (z .src .iid) (z .dst .iid) w))) s (z .at)) l n) same Z)
 
-    pub header-no : (r : Walked) (e : Refusal) (n : List ℕ) → Walks r v (behindNext (h .«next_header») (chain (v .left) ctx (around v)) s to) l n → r ≡ Walked.Refused e → Headers (Walked.Refused e) n
+    pub header-on : (r : Walked) (len : ℕ) (u : UdpSum) (z : ℕ) (n o : List ℕ) → z ≡ totalOf (w .size) len - (w .at + 40) → Walks r v (behindNext (k .next) (chain (v .left) ctx (around v)) s (k .at)) l n → r ≡ Walked.End len u → o ≡ put (w .at) (keptFull k z) n → Headers (Walked.End len u) o
     unfolding headerThen
-    header-no r e n X k = rw (← i, ← j, sym p ∙ ap ofParsed g) (walks-ipv6-no e w h behind-it l n (inner r (Walked.Refused e) n X k))
+    header-on r len u z n o e X f b =
+        let b2 : o ≡ put (w .at) (ipv6With h number z) n = b ∙ ap (λ x. put (w .at) (keptFull x z) n) same ∙ ap (λ x. put (w .at) x n) (kept-full h number to z) in
+        rw (← i, ← j, known ctx s ls ld at y p k g .are-read)
+        (walks-ipv6-go len u w h number z behind-it l n o e (λ c m q. number-read (h .«next_header») (w .left) ctx (within h) s to c m q) (inner r (Walked.End len u) n X f) b2)
+
+    pub header-no : (r : Walked) (e : Refusal) (n : List ℕ) → Walks r v (behindNext (k .next) (chain (v .left) ctx (around v)) s (k .at)) l n → r ≡ Walked.Refused e → Headers (Walked.Refused e) n
+    unfolding headerThen
+    header-no r e n X f = rw (← i, ← j, known ctx s ls ld at y p k g .are-read) (walks-ipv6-no e w h behind-it l n (inner r (Walked.Refused e) n X f))
 
 -- ---- how far a step in code reads
 pub ext-facts : {y : Step} {x : Extension} (left : ℕ) (s : List ℕ) (at : ℕ) → ofLink y s ≡ link left s at → y ≡ Step.Extension x → (at + 2 + (x .to - x .from) ≤ x .to) × (x .to ≤ length s) × (1 ≤ left)
@@ -616,8 +658,10 @@ inner-facts {n = n} left s at p g =
     let t = link-steps left s at innerLink n (sym p ∙ ap (λ z. ofLink z s) g) in
     (t .reach, t .ends, t .wants)
 
-pub header-facts : {y : Parsed} {h : Repr} {d : Cursor} (ctx s : List ℕ) (ls ld : AddressField) (at : ℕ) → ofParsed y ≡ iphc ctx ls ld s at → y ≡ Parsed.Header h d → (at + 2 ≤ d .at) × (d .at ≤ length s)
-header-facts {h = h} {d = d} ctx s ls ld at p g = iphc-reach ctx ls ld s at h (d .at) (sym p ∙ ap ofParsed g)
+pub header-facts : {y : KeptRead} {k : Kept} (ctx s : List ℕ) (ls ld : AddressField) (at : ℕ) → ofKept y ≡ kept ctx ls ld s at → y ≡ KeptRead.Header k → (at + 2 ≤ k .at) × (k .at ≤ length s)
+header-facts {y = y} {k = k} ctx s ls ld at p g =
+    let b = known ctx s ls ld at y p k g in
+    subst (λ z. (at + 2 ≤ z .at) × (z .at ≤ length s)) (sym (b .is-kept)) (iphc-reach ctx ls ld s at (b .header) (b .place) (b .are-read))
 
 -- ---- RFC 6282, 3.2.2: the identifier of the address outside, its last 64 bits, whatever they are
 flip-back : (x : ℕ) → flip57 (flip57 x) ≡ x

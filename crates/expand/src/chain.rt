@@ -12,10 +12,12 @@ ghost use Rattle.expand.specs.Full.{isAbsent};
 ghost use Rattle.expand.specs.Chain.{fullNumber, isPadded, badLength, fullSize, idAt, extKind, extData, extBody};
 ghost use Rattle.expand.specs.Chain.{innerByte, udpStep, link, identified, headerThen, behindNext, udpEnd, chain};
 ghost use Rattle.expand.specs.Chain.{nextNumber, sumFor, passed, entered, fewer, ofLink, around, rest, totalOf, totalIn, ofTotal};
-ghost use Rattle.expand.specs.Chain.{Walks, onward, extOf};
+ghost use Rattle.expand.specs.Chain.{Walks, onward, extOf, ofKept, kept};
 use super::checksum::UdpSum;
 use super::copy::left;
 use super::copy::put_slice;
+use super::ip::Kept;
+use super::ip::first_word;
 use super::ip::full_size;
 use super::ip::put_extension;
 use super::ip::put_ipv6;
@@ -72,6 +74,12 @@ pub struct Way {
 // Where the datagram ends, or its first part, and what is to be remembered of its checksum.
 pub enum Walked {
     End { len: u16, sum: UdpSum },
+    Refused(Refusal),
+}
+
+// What is kept of an IPv6 header, or why there is none.
+pub enum KeptRead {
+    Header(Kept),
     Refused(Refusal),
 }
 
@@ -384,17 +392,15 @@ impl Way {
         v
     }
 
-    // Inside an IPv6 header.
-    fn within(self, ip: Repr) -> Way
+    // Inside an IPv6 header, by the identifiers of its addresses.
+    fn within(self, src: u64, dst: u64) -> Way
         requires { ⌜ self .at + 40 ≤ 65535 ⌝ }
-        ensures { λ r. ⌜ r ≡ entered ip self ⌝ }
+        ensures { λ r. ⌜ r ≡ entered src dst self ⌝ }
     {
-        let src = ip.src_addr;
-        let dst = ip.dst_addr;
         let size = self.size;
         Way {
-            src: src.iid,
-            dst: dst.iid,
+            src,
+            dst,
             routed: false,
             left: self.left,
             ip: self.at,
@@ -424,33 +430,61 @@ fn is_routed(number: u8, routed: bool) -> bool
     routed
 }
 
+// Reads an IPv6 header. `expand` and `header` both call it, so that what reading takes is not on the stack while the
+// chain is read.
+pub(crate) fn read_kept(
+    frame: &[u8],
+    c: Cursor,
+    src: AddressField,
+    dst: AddressField,
+    contexts: &[u8],
+) -> KeptRead
+    ensures { λ r. ⌜ ofKept r ≡ kept (now (contexts .entry)) src dst (now (frame .entry)) (c .at) ⌝ }
+{
+    match Repr::read(frame, c, src, dst, contexts) {
+        Parsed::Header(ip, d) => {
+            let src = ip.src_addr;
+            let dst = ip.dst_addr;
+            let next = ip.next_header;
+            let number = next_number(frame, next, d.at);
+            let first = first_word(ip);
+            KeptRead::Header(Kept {
+                src,
+                dst,
+                first,
+                number,
+                hops: ip.hop_limit,
+                next,
+                at: d.at,
+            })
+        }
+        Parsed::Refused(e) => KeptRead::Refused(e),
+    }
+}
+
 // An IPv6 header inside another one, and the chain behind it.
 pub(crate) fn header(frame: &[u8], c: Cursor, contexts: &[u8], w: Way, out: &mut [u8]) -> Walked
     requires { ⌜ (w .at + 40 * (w .left + 1) + (length (now frame) - c .at) ≤ 447) × (length (now frame) ≤ 127) ⌝ }
     ensures { λ r. ⌜ Walks r w (headerThen (now (contexts .entry)) (identified (w .src)) (identified (w .dst))
         (chain (w .left) (now (contexts .entry))) (now (frame .entry)) (c .at)) (now (out .entry)) (now (out .exit)) ⌝ }
 {
-    match Repr::read(frame, c, inside(w.src), inside(w.dst), contexts) {
-        Parsed::Header(ip, d) => {
-            let next = ip.next_header;
+    match read_kept(frame, c, inside(w.src), inside(w.dst), contexts) {
+        KeptRead::Header(ip) => {
+            let src = ip.src;
+            let dst = ip.dst;
+            let next = ip.next;
             let o = w.at;
             let size = w.size;
-            match chain(frame, next, d, contexts, w.within(ip), out) {
+            let v = w.within(src.iid, dst.iid);
+            match chain(frame, next, Cursor { at: ip.at }, contexts, v, out) {
                 Walked::End { len, sum } => {
-                    let number = next_number(frame, next, d.at);
-                    put_ipv6(
-                        out,
-                        o as usize,
-                        ip,
-                        number,
-                        less(total_of(size, len), o + 40),
-                    );
+                    put_ipv6(out, o as usize, ip, less(total_of(size, len), o + 40));
                     Walked::End { len, sum }
                 }
                 Walked::Refused(e) => Walked::Refused(e),
             }
         }
-        Parsed::Refused(e) => Walked::Refused(e),
+        KeptRead::Refused(e) => Walked::Refused(e),
     }
 }
 

@@ -25,12 +25,12 @@ use Rattle.expand.proofs.chain.end_udp.Reads as end-udp-reads
 use Rattle.expand.proofs.chain.inside.Reads as inside-reads
 use Rattle.expand.proofs.chain.less.Reads as less-reads
 use Rattle.expand.proofs.chain.next_number.Reads as next-number-reads
+use Rattle.expand.proofs.chain.read_kept.Reads as read-kept-reads
 use Rattle.expand.proofs.chain.read_step.Reads as read-step-reads
 use Rattle.expand.proofs.chain.span.Reads as span-reads
 use Rattle.expand.proofs.chain.total_of.Reads as total-of-reads
 use Rattle.expand.proofs.ip.put_extension.Reads as put-extension-reads
 use Rattle.expand.proofs.ip.put_ipv6.Reads as put-ipv6-reads
-use Rattle.iphc.proofs.header.Repr.read.Reads as read-reads
 use Rattle.expand.proofs.chain.+behind+chain+header.{statement}
 use Rattle.expand.proofs.chain.+behind+chain+header.Tie.{close}
 
@@ -568,14 +568,12 @@ chain-returns-5 t c = search chain-refused
 header-inside-requires : (t : ℕ) → header-lts.Need-inside-requires (
   inside-reads.Asked,
   inside-reads.Learnt,
-  read-reads.Asked,
-  read-reads.Learnt,
+  read-kept-reads.Asked,
+  read-kept-reads.Learnt,
   within-reads.Asked,
   within-reads.Learnt,
   chain-below t,
   chain.Post,
-  next-number-reads.Asked,
-  next-number-reads.Learnt,
   total-of-reads.Asked,
   total-of-reads.Learnt,
   less-reads.Asked,
@@ -588,14 +586,12 @@ header-inside-requires t c κs = search needs
 header-inside-requires-2 : (t : ℕ) → header-lts.Need-inside-requires-2 (
   inside-reads.Asked,
   inside-reads.Learnt,
-  read-reads.Asked,
-  read-reads.Learnt,
+  read-kept-reads.Asked,
+  read-kept-reads.Learnt,
   within-reads.Asked,
   within-reads.Learnt,
   chain-below t,
   chain.Post,
-  next-number-reads.Asked,
-  next-number-reads.Learnt,
   total-of-reads.Asked,
   total-of-reads.Learnt,
   less-reads.Asked,
@@ -605,17 +601,15 @@ header-inside-requires-2 : (t : ℕ) → header-lts.Need-inside-requires-2 (
 ) (header-at t) header.Post
 header-inside-requires-2 t c κs = search needs
 
-header-read-requires : (t : ℕ) → header-lts.Need-read-requires (
+header-read-kept-requires : (t : ℕ) → header-lts.Need-read-kept-requires (
   inside-reads.Asked,
   inside-reads.Learnt,
-  read-reads.Asked,
-  read-reads.Learnt,
+  read-kept-reads.Asked,
+  read-kept-reads.Learnt,
   within-reads.Asked,
   within-reads.Learnt,
   chain-below t,
   chain.Post,
-  next-number-reads.Asked,
-  next-number-reads.Learnt,
   total-of-reads.Asked,
   total-of-reads.Learnt,
   less-reads.Asked,
@@ -623,19 +617,17 @@ header-read-requires : (t : ℕ) → header-lts.Need-read-requires (
   put-ipv6-reads.Asked,
   put-ipv6-reads.Learnt,
 ) (header-at t) header.Post
-header-read-requires t c κs = search needs
+header-read-kept-requires t c κs = search needs
 
 header-enum-known-ip : (t : ℕ) → header-lts.Need-enum-known-ip (
   inside-reads.Asked,
   inside-reads.Learnt,
-  read-reads.Asked,
-  read-reads.Learnt,
+  read-kept-reads.Asked,
+  read-kept-reads.Learnt,
   within-reads.Asked,
   within-reads.Learnt,
   chain-below t,
   chain.Post,
-  next-number-reads.Asked,
-  next-number-reads.Learnt,
   total-of-reads.Asked,
   total-of-reads.Learnt,
   less-reads.Asked,
@@ -648,14 +640,12 @@ header-enum-known-ip t c = search needs
 header-within-requires : (t : ℕ) → header-lts.Need-within-requires (
   inside-reads.Asked,
   inside-reads.Learnt,
-  read-reads.Asked,
-  read-reads.Learnt,
+  read-kept-reads.Asked,
+  read-kept-reads.Learnt,
   within-reads.Asked,
   within-reads.Learnt,
   chain-below t,
   chain.Post,
-  next-number-reads.Asked,
-  next-number-reads.Learnt,
   total-of-reads.Asked,
   total-of-reads.Learnt,
   less-reads.Asked,
@@ -663,19 +653,17 @@ header-within-requires : (t : ℕ) → header-lts.Need-within-requires (
   put-ipv6-reads.Asked,
   put-ipv6-reads.Learnt,
 ) (header-at t) header.Post
-header-within-requires t c κs = omega (arith, c .before .before .before .before .before .before .before .before .before .pre .1)
+header-within-requires t c κs = omega (arith, c .before .before .before .before .before .before .before .before .before .before .before .pre .1)
 
 header-chain-requires : (t : ℕ) → header-lts.Need-chain-requires (
   inside-reads.Asked,
   inside-reads.Learnt,
-  read-reads.Asked,
-  read-reads.Learnt,
+  read-kept-reads.Asked,
+  read-kept-reads.Learnt,
   within-reads.Asked,
   within-reads.Learnt,
   chain-below t,
   chain.Post,
-  next-number-reads.Asked,
-  next-number-reads.Learnt,
   total-of-reads.Asked,
   total-of-reads.Learnt,
   less-reads.Asked,
@@ -683,19 +671,17 @@ header-chain-requires : (t : ℕ) → header-lts.Need-chain-requires (
   put-ipv6-reads.Asked,
   put-ipv6-reads.Learnt,
 ) (header-at t) header.Post
-header-chain-requires t c κs = let a = c .before .before .before .before .before .before .before .before .before .before .before .args in omega (arith, header-facts _ (now (a .frame)) _ _ (a .c .at) (c .before .before .before .before .before .read .ensures) (c .before .before .before .ip .given .1), c .before .before .before .before .before .before .before .before .before .before .before .pre, ap (λ z. z .at) (c .before .within .ensures), ap (λ z. z .left) (c .before .within .ensures))
+header-chain-requires t c κs = let a = c .before .before .before .before .before .before .before .before .before .before .before .before .before .args in omega (arith, header-facts _ (now (a .frame)) _ _ (a .c .at) (c .before .before .before .before .before .before .before .read-kept .ensures) (c .before .before .before .before .before .ip .given .1), c .before .before .before .before .before .before .before .before .before .before .before .before .before .pre, ap (λ z. z .at) (c .before .within .ensures), ap (λ z. z .left) (c .before .within .ensures))
 
 header-enum-known-len : (t : ℕ) → header-lts.Need-enum-known-len (
   inside-reads.Asked,
   inside-reads.Learnt,
-  read-reads.Asked,
-  read-reads.Learnt,
+  read-kept-reads.Asked,
+  read-kept-reads.Learnt,
   within-reads.Asked,
   within-reads.Learnt,
   chain-below t,
   chain.Post,
-  next-number-reads.Asked,
-  next-number-reads.Learnt,
   total-of-reads.Asked,
   total-of-reads.Learnt,
   less-reads.Asked,
@@ -705,37 +691,15 @@ header-enum-known-len : (t : ℕ) → header-lts.Need-enum-known-len (
 ) (header-at t) header.Post
 header-enum-known-len t c = search needs
 
-header-next-number-requires : (t : ℕ) → header-lts.Need-next-number-requires (
-  inside-reads.Asked,
-  inside-reads.Learnt,
-  read-reads.Asked,
-  read-reads.Learnt,
-  within-reads.Asked,
-  within-reads.Learnt,
-  chain-below t,
-  chain.Post,
-  next-number-reads.Asked,
-  next-number-reads.Learnt,
-  total-of-reads.Asked,
-  total-of-reads.Learnt,
-  less-reads.Asked,
-  less-reads.Learnt,
-  put-ipv6-reads.Asked,
-  put-ipv6-reads.Learnt,
-) (header-at t) header.Post
-header-next-number-requires t c κs = search needs
-
 header-cast-put-ipv6 : (t : ℕ) → header-lts.Need-cast-put-ipv6 (
   inside-reads.Asked,
   inside-reads.Learnt,
-  read-reads.Asked,
-  read-reads.Learnt,
+  read-kept-reads.Asked,
+  read-kept-reads.Learnt,
   within-reads.Asked,
   within-reads.Learnt,
   chain-below t,
   chain.Post,
-  next-number-reads.Asked,
-  next-number-reads.Learnt,
   total-of-reads.Asked,
   total-of-reads.Learnt,
   less-reads.Asked,
@@ -743,19 +707,17 @@ header-cast-put-ipv6 : (t : ℕ) → header-lts.Need-cast-put-ipv6 (
   put-ipv6-reads.Asked,
   put-ipv6-reads.Learnt,
 ) (header-at t) header.Post
-header-cast-put-ipv6 t c = omega (arith, c .before .before .before .before .before .before .before .before .before .before .before .before .before .before .before .before .before .before .before .pre .1)
+header-cast-put-ipv6 t c = omega (arith, c .before .before .before .before .before .before .before .before .before .before .before .before .before .before .before .before .before .before .before .before .pre .1)
 
 header-total-of-requires : (t : ℕ) → header-lts.Need-total-of-requires (
   inside-reads.Asked,
   inside-reads.Learnt,
-  read-reads.Asked,
-  read-reads.Learnt,
+  read-kept-reads.Asked,
+  read-kept-reads.Learnt,
   within-reads.Asked,
   within-reads.Learnt,
   chain-below t,
   chain.Post,
-  next-number-reads.Asked,
-  next-number-reads.Learnt,
   total-of-reads.Asked,
   total-of-reads.Learnt,
   less-reads.Asked,
@@ -768,14 +730,12 @@ header-total-of-requires t c κs = search needs
 header-add-less : (t : ℕ) → header-lts.Need-add-less (
   inside-reads.Asked,
   inside-reads.Learnt,
-  read-reads.Asked,
-  read-reads.Learnt,
+  read-kept-reads.Asked,
+  read-kept-reads.Learnt,
   within-reads.Asked,
   within-reads.Learnt,
   chain-below t,
   chain.Post,
-  next-number-reads.Asked,
-  next-number-reads.Learnt,
   total-of-reads.Asked,
   total-of-reads.Learnt,
   less-reads.Asked,
@@ -783,19 +743,17 @@ header-add-less : (t : ℕ) → header-lts.Need-add-less (
   put-ipv6-reads.Asked,
   put-ipv6-reads.Learnt,
 ) (header-at t) header.Post
-header-add-less t c = omega (arith, c .before .before .before .before .before .before .before .before .before .before .before .before .before .before .before .before .before .before .before .before .pre .1)
+header-add-less t c = omega (arith, c .before .before .before .before .before .before .before .before .before .before .before .before .before .before .before .before .before .before .before .before .before .pre .1)
 
 header-less-requires : (t : ℕ) → header-lts.Need-less-requires (
   inside-reads.Asked,
   inside-reads.Learnt,
-  read-reads.Asked,
-  read-reads.Learnt,
+  read-kept-reads.Asked,
+  read-kept-reads.Learnt,
   within-reads.Asked,
   within-reads.Learnt,
   chain-below t,
   chain.Post,
-  next-number-reads.Asked,
-  next-number-reads.Learnt,
   total-of-reads.Asked,
   total-of-reads.Learnt,
   less-reads.Asked,
@@ -808,14 +766,12 @@ header-less-requires t c κs = search needs
 header-put-ipv6-requires : (t : ℕ) → header-lts.Need-put-ipv6-requires (
   inside-reads.Asked,
   inside-reads.Learnt,
-  read-reads.Asked,
-  read-reads.Learnt,
+  read-kept-reads.Asked,
+  read-kept-reads.Learnt,
   within-reads.Asked,
   within-reads.Learnt,
   chain-below t,
   chain.Post,
-  next-number-reads.Asked,
-  next-number-reads.Learnt,
   total-of-reads.Asked,
   total-of-reads.Learnt,
   less-reads.Asked,
@@ -823,19 +779,17 @@ header-put-ipv6-requires : (t : ℕ) → header-lts.Need-put-ipv6-requires (
   put-ipv6-reads.Asked,
   put-ipv6-reads.Learnt,
 ) (header-at t) header.Post
-header-put-ipv6-requires t c κs = omega (arith, c .before .before .before .before .before .before .before .before .before .before .before .before .before .before .before .before .before .before .before .before .before .pre .1)
+header-put-ipv6-requires t c κs = omega (arith, c .before .before .before .before .before .before .before .before .before .before .before .before .before .before .before .before .before .before .before .before .before .before .pre .1)
 
 header-enum-known-e : (t : ℕ) → header-lts.Need-enum-known-e (
   inside-reads.Asked,
   inside-reads.Learnt,
-  read-reads.Asked,
-  read-reads.Learnt,
+  read-kept-reads.Asked,
+  read-kept-reads.Learnt,
   within-reads.Asked,
   within-reads.Learnt,
   chain-below t,
   chain.Post,
-  next-number-reads.Asked,
-  next-number-reads.Learnt,
   total-of-reads.Asked,
   total-of-reads.Learnt,
   less-reads.Asked,
@@ -848,14 +802,12 @@ header-enum-known-e t c = search needs
 header-enum-known-e-2 : (t : ℕ) → header-lts.Need-enum-known-e-2 (
   inside-reads.Asked,
   inside-reads.Learnt,
-  read-reads.Asked,
-  read-reads.Learnt,
+  read-kept-reads.Asked,
+  read-kept-reads.Learnt,
   within-reads.Asked,
   within-reads.Learnt,
   chain-below t,
   chain.Post,
-  next-number-reads.Asked,
-  next-number-reads.Learnt,
   total-of-reads.Asked,
   total-of-reads.Learnt,
   less-reads.Asked,
@@ -868,14 +820,12 @@ header-enum-known-e-2 t c = search needs
 header-same-length : (t : ℕ) → header-lts.Need-same-length (
   inside-reads.Asked,
   inside-reads.Learnt,
-  read-reads.Asked,
-  read-reads.Learnt,
+  read-kept-reads.Asked,
+  read-kept-reads.Learnt,
   within-reads.Asked,
   within-reads.Learnt,
   chain-below t,
   chain.Post,
-  next-number-reads.Asked,
-  next-number-reads.Learnt,
   total-of-reads.Asked,
   total-of-reads.Learnt,
   less-reads.Asked,
@@ -888,14 +838,12 @@ header-same-length t c = search needs
 header-returns : (t : ℕ) → header-lts.Need-returns (
   inside-reads.Asked,
   inside-reads.Learnt,
-  read-reads.Asked,
-  read-reads.Learnt,
+  read-kept-reads.Asked,
+  read-kept-reads.Learnt,
   within-reads.Asked,
   within-reads.Learnt,
   chain-below t,
   chain.Post,
-  next-number-reads.Asked,
-  next-number-reads.Learnt,
   total-of-reads.Asked,
   total-of-reads.Learnt,
   less-reads.Asked,
@@ -903,19 +851,17 @@ header-returns : (t : ℕ) → header-lts.Need-returns (
   put-ipv6-reads.Asked,
   put-ipv6-reads.Learnt,
 ) (header-at t) header.Post
-header-returns t c = let a = c .before .before .before .before .before .before .before .before .before .before .before .before .before .before .before .before .before .before .before .before .before .before .before .before .args in header-on (a .w) (now (a .contexts)) (now (a .frame)) (now (a .out)) _ _ (a .c .at) _ (c .before .before .before .before .before .before .before .before .before .before .before .before .before .before .before .before .before .before .before .before .inside .ensures) (c .before .before .before .before .before .before .before .before .before .before .before .before .before .before .before .before .before .before .before .inside2 .ensures) (c .before .before .before .before .before .before .before .before .before .before .before .before .before .before .before .before .before .before .read .ensures) _ _ _ (c .before .before .before .before .before .before .before .before .before .before .before .before .before .before .before .before .ip .given .1) (c .before .before .before .before .before .before .before .before .before .before .before .before .before .before .within .ensures) _ _ _ _ _ _ _ (c .before .before .before .before .before .before .next-number .ensures) (c .before .before .before .less .ensures ∙ ap (λ z. z - (a .w .at + 40)) (c .before .before .before .before .total-of .ensures)) (c .before .before .before .before .before .before .before .before .before .before .before .before .chain .ensures) (c .before .before .before .before .before .before .before .before .len .given .1) (c .before .before .put-ipv6 .ensures)
+header-returns t c = let a = c .before .before .before .before .before .before .before .before .before .before .before .before .before .before .before .before .before .before .before .before .before .before .before .before .before .args in header-on (a .w) (now (a .contexts)) (now (a .frame)) (now (a .out)) _ _ (a .c .at) _ (c .before .before .before .before .before .before .before .before .before .before .before .before .before .before .before .before .before .before .before .before .before .inside .ensures) (c .before .before .before .before .before .before .before .before .before .before .before .before .before .before .before .before .before .before .before .before .inside2 .ensures) (c .before .before .before .before .before .before .before .before .before .before .before .before .before .before .before .before .before .before .before .read-kept .ensures) _ _ (c .before .before .before .before .before .before .before .before .before .before .before .before .before .before .before .before .before .ip .given .1) (c .before .before .before .before .before .before .before .before .before .before .before .before .before .within .ensures) _ _ _ _ _ _ (c .before .before .before .less .ensures ∙ ap (λ z. z - (a .w .at + 40)) (c .before .before .before .before .total-of .ensures)) (c .before .before .before .before .before .before .before .before .before .before .before .chain .ensures) (c .before .before .before .before .before .before .before .len .given .1) (c .before .before .put-ipv6 .ensures)
 
 header-same-length-2 : (t : ℕ) → header-lts.Need-same-length-2 (
   inside-reads.Asked,
   inside-reads.Learnt,
-  read-reads.Asked,
-  read-reads.Learnt,
+  read-kept-reads.Asked,
+  read-kept-reads.Learnt,
   within-reads.Asked,
   within-reads.Learnt,
   chain-below t,
   chain.Post,
-  next-number-reads.Asked,
-  next-number-reads.Learnt,
   total-of-reads.Asked,
   total-of-reads.Learnt,
   less-reads.Asked,
@@ -928,14 +874,12 @@ header-same-length-2 t c = search needs
 header-returns-2 : (t : ℕ) → header-lts.Need-returns-2 (
   inside-reads.Asked,
   inside-reads.Learnt,
-  read-reads.Asked,
-  read-reads.Learnt,
+  read-kept-reads.Asked,
+  read-kept-reads.Learnt,
   within-reads.Asked,
   within-reads.Learnt,
   chain-below t,
   chain.Post,
-  next-number-reads.Asked,
-  next-number-reads.Learnt,
   total-of-reads.Asked,
   total-of-reads.Learnt,
   less-reads.Asked,
@@ -948,14 +892,12 @@ header-returns-2 t c = search header-no
 header-returns-3 : (t : ℕ) → header-lts.Need-returns-3 (
   inside-reads.Asked,
   inside-reads.Learnt,
-  read-reads.Asked,
-  read-reads.Learnt,
+  read-kept-reads.Asked,
+  read-kept-reads.Learnt,
   within-reads.Asked,
   within-reads.Learnt,
   chain-below t,
   chain.Post,
-  next-number-reads.Asked,
-  next-number-reads.Learnt,
   total-of-reads.Asked,
   total-of-reads.Learnt,
   less-reads.Asked,
@@ -1032,14 +974,12 @@ pub +behind+chain+header-spec : {M : Type 1} → statement M
     λ t. header-lts.spec (
       inside-reads.Asked,
       inside-reads.Learnt,
-      read-reads.Asked,
-      read-reads.Learnt,
+      read-kept-reads.Asked,
+      read-kept-reads.Learnt,
       within-reads.Asked,
       within-reads.Learnt,
       chain-below t,
       chain.Post,
-      next-number-reads.Asked,
-      next-number-reads.Learnt,
       total-of-reads.Asked,
       total-of-reads.Learnt,
       less-reads.Asked,
@@ -1051,12 +991,11 @@ pub +behind+chain+header-spec : {M : Type 1} → statement M
     header.Post
     (header-inside-requires t)
     (header-inside-requires-2 t)
-    (header-read-requires t)
+    (header-read-kept-requires t)
     (header-enum-known-ip t)
     (header-within-requires t)
     (header-chain-requires t)
     (header-enum-known-len t)
-    (header-next-number-requires t)
     (header-cast-put-ipv6 t)
     (header-total-of-requires t)
     (header-add-less t)
