@@ -11,8 +11,8 @@ ghost use Rattle.octets.specs.Write.{put};
 ghost use Rattle.expand.specs.Full.{isAbsent};
 ghost use Rattle.expand.specs.Chain.{fullNumber, isPadded, badLength, fullSize, idAt, extKind, extData, extBody};
 ghost use Rattle.expand.specs.Chain.{innerByte, udpStep, link, identified, headerThen, behindNext, udpEnd, chain};
-ghost use Rattle.expand.specs.Chain.{nextNumber, sumFor, passed, entered, fewer, ofLink, around, rest, totalOf, totalIn, ofTotal};
-ghost use Rattle.expand.specs.Chain.{Walks, onward, extOf, ofKept, kept};
+ghost use Rattle.expand.specs.Chain.{nextNumber, sumFor, passed, entered, fewer, ofLink, around, rest, totalOf};
+ghost use Rattle.expand.specs.Chain.{totalIn, ofTotal, Walks, onward, extOf, ofKept, kept};
 use super::checksum::UdpSum;
 use super::copy::left;
 use super::copy::put_slice;
@@ -40,7 +40,7 @@ use sixlowpan::nhc::NhcPacket;
 use sixlowpan::nhc::UdpNhcRepr;
 use sixlowpan::nhc::UdpParsed;
 
-// An extension header: its number, its next header field, and where in the frame what follows its first two bytes stands.
+// An extension header: its number, its next header field, and where in the frame what follows its first two bytes is.
 pub struct Extension {
     pub number: u8,
     pub next: NextHeader,
@@ -48,8 +48,8 @@ pub struct Extension {
     pub to: usize,
 }
 
-// What stands at a place of a chain, and the place behind it: a UDP header, an extension header, or the byte in front of
-// an IPv6 header.
+// What stands at a place of a chain, and the place behind it: a UDP header; an extension header; or the byte in front
+// of an IPv6 header.
 pub enum Step {
     Udp(UdpNhcRepr, usize),
     Extension(Extension),
@@ -475,8 +475,14 @@ pub(crate) fn header(frame: &[u8], c: Cursor, contexts: &[u8], w: Way, out: &mut
             let next = ip.next;
             let o = w.at;
             let size = w.size;
-            let v = w.within(src.iid, dst.iid);
-            match chain(frame, next, Cursor { at: ip.at }, contexts, v, out) {
+            match chain(
+                frame,
+                next,
+                Cursor { at: ip.at },
+                contexts,
+                w.within(src.iid, dst.iid),
+                out,
+            ) {
                 Walked::End { len, sum } => {
                     put_ipv6(out, o as usize, ip, less(total_of(size, len), o + 40));
                     Walked::End { len, sum }
@@ -488,8 +494,8 @@ pub(crate) fn header(frame: &[u8], c: Cursor, contexts: &[u8], w: Way, out: &mut
     }
 }
 
-// An extension header, and the chain behind it. It is a function of its own, as `header` is, so that the two share their
-// place on the stack in each round of `chain`.
+// An extension header, and the chain behind it. It is a function of its own, as `header` is, so that the two share
+// their place on the stack in each round of `chain`.
 fn behind(frame: &[u8], x: Extension, contexts: &[u8], w: Way, out: &mut [u8]) -> Walked
     requires { ⌜ (w .at + 40 * w .left + (x .to - x .from) + (length (now frame) - x .to) ≤ 447) × (1 ≤ w .left)
         × (x .to ≤ length (now frame)) × (length (now frame) ≤ 127) ⌝ }
