@@ -37,17 +37,20 @@ use Rattle.iphc.specs.Answers.{ofParsed}
 use Rattle.iphc.specs.declared.header.Repr.{Repr}
 use Rattle.iphc.specs.declared.header.Parsed.{Parsed}
 use Rattle.iphc.proofs.Lengths.{iphc-length}
-use Rattle.expand.specs.Full.{isAbsent, ipv6With, udpFull}
+use Rattle.expand.specs.Full.{isAbsent, firstWord, ipv6With, udpFull, keep, keptFull}
 use Rattle.expand.specs.Sum.{noSum}
-use Rattle.expand.specs.Chain.{Chain, rest, udpThen, extension, ipv6, Link, udpLink, extLink, innerLink, Around, fullNumber, badLength, octets, extData, extBody, innerByte, extKind, idAt, udpStep, linkOf, link, within, past, inside, behindNext, headerThen, udpEnd, onward, chain, nhcNumber, nextNumber, headNumber, fullSize, extFull, sizeOf, fullBytes, sumFor, sumIn, ofLink, around, passed, entered, fewer, ofWalked, endOf, Lays, Walks, totalOf, totalIn, ofTotal, ending, Measure}
+use Rattle.expand.specs.Chain.{Chain, rest, udpThen, extension, ipv6, Link, udpLink, extLink, innerLink, Around, fullNumber, badLength, octets, extData, extBody, innerByte, extKind, idAt, udpStep, linkOf, link, within, past, inside, identified, behindNext, headerThen, udpEnd, onward, chain, nhcNumber, nextNumber, headNumber, fullSize, extFull, sizeOf, fullBytes, sumFor, sumIn, extOf, ofLink, around, passed, entered, fewer, ofWalked, endOf, Lays, Walks, totalOf, totalIn, ofTotal, kept, ofKept, ending, Measure}
 use Rattle.expand.specs.declared.checksum.UdpSum.{UdpSum}
+use Rattle.expand.specs.declared.ip.Kept.{Kept}
+use Rattle.expand.specs.declared.chain.Extension.{Extension}
+use Rattle.expand.specs.declared.chain.KeptRead.{KeptRead}
 use Rattle.expand.specs.declared.chain.Step.{Step}
 use Rattle.expand.specs.declared.chain.Way.{Way}
 use Rattle.expand.specs.declared.chain.Walked.{Walked}
 use Rattle.expand.specs.declared.chain.TotalAnswer.{TotalAnswer}
 use Rattle.expand.proofs.Inverting.{invert, got-value, got-next, value-is}
 use Rattle.expand.proofs.CopyLaws.{before}
-use Rattle.expand.proofs.FullLaws.{length-ipv6, length-udp, length-ext, taken-length}
+use Rattle.expand.proofs.FullLaws.{length-ipv6, length-udp, length-ext, taken-length, kept-full}
 use Rattle.expand.proofs.ExpandLaws.{rest-told}
 
 -- ---- how far a step reads
@@ -288,6 +291,41 @@ number-read Compressed left ctx w s at c n e =
     let i = invert (link left s at) (λ p. onward ctx (shorter left ctx) w (p .value) s (p .next)) _ (sym (chain-is left ctx w s at) ∙ e) in
     link-number left s at (i .value .value) (i .value .next) (i .first) ∙ onward-number ctx (shorter left ctx) w (i .value .value) s (i .value .next) c n (i .second)
 
+-- ---- what is inside an IPv6 header depends on the identifiers of its addresses, and not on their prefixes
+abbrev Same : Around → Around → Type 0
+Same v w = (v .src .iid ≡ w .src .iid) × (v .dst .iid ≡ w .dst .iid) × (v .routed ≡ w .routed)
+
+then-same : {A B : Type 0} (m : Answer A) (f g : A → Answer B) → ((x : A) → f x ≡ g x) → andThen m f ≡ andThen m g
+then-same (is x) f g e = e x
+then-same (refused n) f g e = refl
+
+abbrev Blind : (Around → Reader Chain) → Type 0
+Blind m = (v w : Around) → Same v w → (s : List ℕ) (at : ℕ) → m v s at ≡ m w s at
+
+behind-same : (m : Around → Reader Chain) → Blind m → (next : NextHeader) (v w : Around) → Same v w → (s : List ℕ) (at : ℕ) → behindNext next (m v) s at ≡ behindNext next (m w) s at
+unfolding behindNext
+behind-same m f (Uncompressed p) v w e s at = refl
+behind-same m f Compressed v w e s at = f v w e s at
+
+onward-same : (ctx : List ℕ) (m : Around → Reader Chain) → Blind m → (l : Link) (v w : Around) → Same v w → (s : List ℕ) (at : ℕ) → onward ctx m v l s at ≡ onward ctx m w l s at
+unfolding onward udpEnd
+onward-same ctx m f (udpLink h) v w e s at = ap (λ t. choose (t && isAbsent (h .checksum)) (refused 13) (got (udpThen h (drop at s)) at)) (e .2)
+onward-same ctx m f (extLink x d next) v w e s at = ap (λ z. andThen z (λ p. got (extension x d (p .value)) (p .next))) (behind-same m f next (past x v) (past x w) (e .0, e .1, ap (λ t. eqb x 43 || t) (e .2)) s at)
+onward-same ctx m f innerLink v w e s at = ap (λ z. headerThen ctx (identified z) (inside (v .dst)) m s at) (e .0) ∙ ap (λ z. headerThen ctx (inside (w .src)) (identified z) m s at) (e .1)
+
+pub chain-same : (left : ℕ) (ctx : List ℕ) → Blind (chain left ctx)
+chain-same zero ctx v w e s at =
+    chain-is zero ctx v s at
+    ∙ then-same (link zero s at) _ _ (λ p. onward-same ctx (λ u. refuse 3) (λ a b h t k. refl) (p .value) v w e s (p .next))
+    ∙ sym (chain-is zero ctx w s at)
+chain-same (suc left) ctx v w e s at =
+    chain-is (suc left) ctx v s at
+    ∙ then-same (link (suc left) s at) _ _ (λ p. onward-same ctx (chain left ctx) (chain-same left ctx) (p .value) v w e s (p .next))
+    ∙ sym (chain-is (suc left) ctx w s at)
+
+pub next-same : (next : NextHeader) (left : ℕ) (ctx : List ℕ) (v w : Around) (s : List ℕ) (at : ℕ) → v .src .iid ≡ w .src .iid → v .dst .iid ≡ w .dst .iid → v .routed ≡ w .routed → behindNext next (chain left ctx v) s at ≡ behindNext next (chain left ctx w) s at
+next-same next left ctx v w s at a b c = behind-same (chain left ctx) (chain-same left ctx) next v w (a, b, c) s at
+
 -- ---- how long a chain gets: a header takes at most 40 bytes more than it was read from, and UDP 8
 abbrev Within : ℕ → List ℕ → ℕ → Chain → Type 0
 Within left s at c = sizeOf c ≤ 40 * left + 8 + (length s - at)
@@ -445,11 +483,11 @@ walks-ext-no e w x d (refused k) l n W = record { answer = W .answer; bytes = W 
 walks-ext-no e w x d (is p) l n W = record { answer = W .answer ∙ ending-ext w x d (p .value) (length l); bytes = W .bytes }
 
 -- an IPv6 header likewise
-ending-ipv6 : (w : Way) (h : Repr) (c : Chain) (n : ℕ) → ending (entered h w) n c ≡ ending w n (ipv6 h c)
+ending-ipv6 : (w : Way) (h : Repr) (c : Chain) (n : ℕ) → ending (entered (h .«src_addr» .iid) (h .«dst_addr» .iid) w) n c ≡ ending w n (ipv6 h c)
 unfolding sizeOf sumIn
 ending-ipv6 w h c n = ap (λ z. andThen (totalIn (w .size) z n) (λ t. is (record { len = z; sum = sumIn false (w .at) (w .at + 40) c }))) (add-assoc (w .at) 40 (sizeOf c))
 
-walks-ipv6-go : (len : ℕ) (u : UdpSum) (w : Way) (h : Repr) (x y : ℕ) (m : Read Chain) (l n o : List ℕ) → y ≡ totalOf (w .size) len - (w .at + 40) → ((c : Chain) (k : ℕ) → m ≡ got c k → x ≡ headNumber c) → Walks (Walked.End len u) (entered h w) m l n → o ≡ put (w .at) (ipv6With h x y) n
+walks-ipv6-go : (len : ℕ) (u : UdpSum) (w : Way) (h : Repr) (x y : ℕ) (m : Read Chain) (l n o : List ℕ) → y ≡ totalOf (w .size) len - (w .at + 40) → ((c : Chain) (k : ℕ) → m ≡ got c k → x ≡ headNumber c) → Walks (Walked.End len u) (entered (h .«src_addr» .iid) (h .«dst_addr» .iid) w) m l n → o ≡ put (w .at) (ipv6With h x y) n
     → Walks (Walked.End len u) w (andThen m (λ p. got (ipv6 h (p .value)) (p .next))) l o
 unfolding fullBytes
 walks-ipv6-go len u w h x y (refused e) l n o q f W a = not-refused _ e (sym (W .answer))
@@ -462,7 +500,7 @@ walks-ipv6-go len u w h x y (is p) l n o q f W a =
       bytes = before l n o (w .at) 40 (ipv6With h (headNumber c) z) (fullBytes (totalOf (w .size) len) (w .at + 40) c) (length-ipv6 h (headNumber c) z) (W .bytes) a2;
     }
 
-walks-ipv6-no : (e : Refusal) (w : Way) (h : Repr) (m : Read Chain) (l n : List ℕ) → Walks (Walked.Refused e) (entered h w) m l n → Walks (Walked.Refused e) w (andThen m (λ p. got (ipv6 h (p .value)) (p .next))) l n
+walks-ipv6-no : (e : Refusal) (w : Way) (h : Repr) (m : Read Chain) (l n : List ℕ) → Walks (Walked.Refused e) (entered (h .«src_addr» .iid) (h .«dst_addr» .iid) w) m l n → Walks (Walked.Refused e) w (andThen m (λ p. got (ipv6 h (p .value)) (p .next))) l n
 walks-ipv6-no e w h (refused k) l n W = record { answer = W .answer; bytes = W .bytes }
 walks-ipv6-no e w h (is p) l n W = record { answer = W .answer ∙ ending-ipv6 w h (p .value) (length l); bytes = W .bytes }
 
@@ -495,82 +533,124 @@ module _ (w : Way) (ctx s l : List ℕ) (at : ℕ) where
   chain-udp r o next y h n q p g W = subst (λ z. Walks r w z l o) (step-is next y (udpLink h) n q p (ap (λ z. ofLink z s) g)) W
 
   pub chain-inner : (r : Walked) (o : List ℕ) (next : NextHeader) (y : Step) (n : ℕ) (v : Way) → next ≡ Compressed → ofLink y s ≡ link (w .left) s at → y ≡ Step.Inner n → v ≡ fewer w
-      → Walks r v (headerThen ctx (inside (v .src)) (inside (v .dst)) (chain (v .left) ctx) s n) l o → Chains r next o
+      → Walks r v (headerThen ctx (identified (v .src)) (identified (v .dst)) (chain (v .left) ctx) s n) l o → Chains r next o
   unfolding onward
   chain-inner r o next y n v q p g i X =
-      let W : Walks r (fewer w) (headerThen ctx (inside (w .src)) (inside (w .dst)) (chain (w .left - 1) ctx) s n) l o = subst (λ z. Walks r z (headerThen ctx (inside (z .src)) (inside (z .dst)) (chain (z .left) ctx) s n) l o) i X in
+      let W : Walks r (fewer w) (headerThen ctx (identified (w .src)) (identified (w .dst)) (chain (w .left - 1) ctx) s n) l o = subst (λ z. Walks r z (headerThen ctx (identified (z .src)) (identified (z .dst)) (chain (z .left) ctx) s n) l o) i X in
       let k : 1 ≤ w .left = link-steps (w .left) s at innerLink n (sym p ∙ ap (λ z. ofLink z s) g) .wants in
-      subst (λ z. Walks r w z l o) (ap (λ z. headerThen ctx (inside (w .src)) (inside (w .dst)) z s n) (sym (shorter-is (w .left) ctx k)) ∙ step-is next y innerLink n q p (ap (λ z. ofLink z s) g))
-      (fewer-go r w (headerThen ctx (inside (w .src)) (inside (w .dst)) (chain (w .left - 1) ctx) s n) l o W)
+      subst (λ z. Walks r w z l o) (ap (λ z. headerThen ctx (identified (w .src)) (identified (w .dst)) z s n) (sym (shorter-is (w .left) ctx k)) ∙ step-is next y innerLink n q p (ap (λ z. ofLink z s) g))
+      (fewer-go r w (headerThen ctx (identified (w .src)) (identified (w .dst)) (chain (w .left - 1) ctx) s n) l o W)
 
-  -- behind an extension header, from the place `to` on
-  module _ (next then : NextHeader) (y : Step) (x from to len : ℕ) (v : Way) (q : next ≡ Compressed) (p : ofLink y s ≡ link (w .left) s at) (g : y ≡ Step.Extension x then from to) (e : len ≡ to - from) (i : v ≡ passed x len w) where
-    abbrev carried : List ℕ
-    carried = take (to - from) (drop from s)
+  pub chain-ext : (r : Walked) (o : List ℕ) (next : NextHeader) (y : Step) (x : Extension) → next ≡ Compressed → ofLink y s ≡ link (w .left) s at → y ≡ Step.Extension x
+      → Walks r w (onward ctx (chain (w .left - 1) ctx) (around w) (extOf x s) s (x .to)) l o → Chains r next o
+  chain-ext r o next y x q p g W =
+      let k : 1 ≤ w .left = link-steps (w .left) s at (extOf x s) (x .to) (sym p ∙ ap (λ z. ofLink z s) g) .wants in
+      subst (λ z. Walks r w z l o) (ap (λ z. onward ctx z (around w) (extOf x s) s (x .to)) (sym (shorter-is (w .left) ctx k)) ∙ step-is next y (extOf x s) (x .to) q p (ap (λ z. ofLink z s) g)) W
 
-    abbrev rests : Read Chain
-    rests = behindNext then (chain (w .left - 1) ctx (past x (around w))) s to
+-- an extension header that ends within the frame
+module _ (w : Way) (ctx s l : List ℕ) (x : Extension) (len : ℕ) (v : Way) (fits : x .to ≤ length s) (e : len ≡ x .to - x .from) (i : v ≡ passed (x .number) len w) where
+  abbrev carried : List ℕ
+  carried = take (x .to - x .from) (drop (x .from) s)
 
-    facts : Steps (extLink x carried then) (w .left) s at to
-    facts = link-steps (w .left) s at (extLink x carried then) to (sym p ∙ ap (λ z. ofLink z s) g)
+  abbrev rests : Read Chain
+  rests = behindNext (x .next) (chain (w .left - 1) ctx (past (x .number) (around w))) s (x .to)
 
-    long : len ≡ length carried
-    long = e ∙ sym (taken-length s from (to - from) (omega (arith, facts .ends)))
+  abbrev Behind : Walked → List ℕ → Type 0
+  Behind r o = Walks r w (onward ctx (chain (w .left - 1) ctx) (around w) (extOf x s) s (x .to)) l o
 
-    within-it : (r : Walked) (n : List ℕ) → Walks r v (behindNext then (chain (v .left) ctx (around v)) s to) l n → Walks r (passed x (length carried) w) rests l n
-    within-it r n X =
-        let W : Walks r (passed x len w) rests l n = subst (λ z. Walks r z (behindNext then (chain (z .left) ctx (around z)) s to) l n) i X in
-        subst (λ z. Walks r (passed x z w) rests l n) long W
+  long : len ≡ length carried
+  long = e ∙ sym (taken-length s (x .from) (x .to - x .from) (omega (arith, fits)))
 
-    whole-is : andThen rests (λ p. got (extension x carried (p .value)) (p .next)) ≡ behindNext next (chain (w .left) ctx (around w)) s at
-    unfolding onward
-    whole-is = ap (λ z. andThen (behindNext then (z (past x (around w))) s to) (λ p. got (extension x carried (p .value)) (p .next))) (sym (shorter-is (w .left) ctx (facts .wants))) ∙ step-is next y (extLink x carried then) to q p (ap (λ z. ofLink z s) g)
+  within-it : (r q : Walked) (n : List ℕ) → Walks r v (behindNext (x .next) (chain (v .left) ctx (around v)) s (x .to)) l n → r ≡ q → Walks q (passed (x .number) (length carried) w) rests l n
+  within-it r q n X j =
+      let Y : Walks q v (behindNext (x .next) (chain (v .left) ctx (around v)) s (x .to)) l n = subst (λ t. Walks t v (behindNext (x .next) (chain (v .left) ctx (around v)) s (x .to)) l n) j X in
+      let W : Walks q (passed (x .number) len w) rests l n = subst (λ z. Walks q z (behindNext (x .next) (chain (z .left) ctx (around z)) s (x .to)) l n) i Y in
+      subst (λ z. Walks q (passed (x .number) z w) rests l n) long W
 
-    pub chain-ext : (r : Walked) (k : ℕ) (u : UdpSum) (z : ℕ) (n o : List ℕ) → z ≡ nextNumber then s to → Walks r v (behindNext then (chain (v .left) ctx (around v)) s to) l n → r ≡ Walked.End k u → o ≡ put (w .at) (extFull z (take len (drop from s))) n → Chains (Walked.End k u) next o
-    chain-ext r k u z n o f X j a =
-        let W : Walks (Walked.End k u) (passed x (length carried) w) rests l n = within-it (Walked.End k u) n (subst (λ t. Walks t v (behindNext then (chain (v .left) ctx (around v)) s to) l n) j X) in
-        subst (λ t. Walks (Walked.End k u) w t l o) whole-is
-        (walks-ext-go k u w x z carried rests l n o (λ c j h. f ∙ number-read then (w .left - 1) ctx (past x (around w)) s to c j h) W (a ∙ ap (λ t. put (w .at) (extFull z (take t (drop from s))) n) e))
+  pub behind-on : (r : Walked) (k : ℕ) (u : UdpSum) (z : ℕ) (n o : List ℕ) → z ≡ nextNumber (x .next) s (x .to) → Walks r v (behindNext (x .next) (chain (v .left) ctx (around v)) s (x .to)) l n → r ≡ Walked.End k u → o ≡ put (w .at) (extFull z (take len (drop (x .from) s))) n → Behind (Walked.End k u) o
+  unfolding onward
+  behind-on r k u z n o f X j a =
+      walks-ext-go k u w (x .number) z carried rests l n o (λ c j h. f ∙ number-read (x .next) (w .left - 1) ctx (past (x .number) (around w)) s (x .to) c j h) (within-it r (Walked.End k u) n X j) (a ∙ ap (λ t. put (w .at) (extFull z (take t (drop (x .from) s))) n) e)
 
-    pub chain-ext-no : (r : Walked) (d : Refusal) (n : List ℕ) → Walks r v (behindNext then (chain (v .left) ctx (around v)) s to) l n → r ≡ Walked.Refused d → Chains (Walked.Refused d) next n
-    chain-ext-no r d n X j =
-        let W : Walks (Walked.Refused d) (passed x (length carried) w) rests l n = within-it (Walked.Refused d) n (subst (λ t. Walks t v (behindNext then (chain (v .left) ctx (around v)) s to) l n) j X) in
-        subst (λ t. Walks (Walked.Refused d) w t l n) whole-is (walks-ext-no d w x carried rests l n W)
+  pub behind-no : (r : Walked) (d : Refusal) (n : List ℕ) → Walks r v (behindNext (x .next) (chain (v .left) ctx (around v)) s (x .to)) l n → r ≡ Walked.Refused d → Behind (Walked.Refused d) n
+  unfolding onward
+  behind-no r d n X j = walks-ext-no d w (x .number) carried rests l n (within-it r (Walked.Refused d) n X j)
 
--- an IPv6 header
-module _ (w : Way) (ctx s l : List ℕ) (ls ld : AddressField) (at : ℕ) (y : Parsed) (i : ls ≡ inside (w .src)) (j : ld ≡ inside (w .dst)) (p : ofParsed y ≡ iphc ctx ls ld s at) where
+-- an IPv6 header, as it is kept
+module _ (ctx s : List ℕ) (ls ld : AddressField) (at : ℕ) (y : Parsed) (p : ofParsed y ≡ iphc ctx ls ld s at) where
+  pub kept-on : (h : Repr) (d : Cursor) (x w : ℕ) → y ≡ Parsed.Header h d → x ≡ nextNumber (h .«next_header») s (d .at) → w ≡ firstWord h
+      → is (record { src = h .«src_addr»; dst = h .«dst_addr»; first = w; number = x; hops = h .«hop_limit»; next = h .«next_header»; at = d .at }) ≡ kept ctx ls ld s at
+  kept-on h d x w g a b = rw (sym p ∙ ap ofParsed g, a, b) refl
+
+  pub kept-no : (e : Refusal) → y ≡ Parsed.Refused e → refused (numberOf e) ≡ kept ctx ls ld s at
+  kept-no e g = rw (sym p ∙ ap ofParsed g) refl
+
+pub record Known (ctx s : List ℕ) (ls ld : AddressField) (at : ℕ) (k : Kept) : Type 0 where
+  pub header : Repr
+  pub place : ℕ
+  pub are-read : iphc ctx ls ld s at ≡ got header place
+  pub is-kept : k ≡ keep header (nextNumber (header .«next_header») s place) place
+
+unread : {A B : Type 0} (m : Answer A) (f : A → B) (n : ℕ) → refused n ≡ andThen m (λ x. is (f x)) → m ≡ refused n
+unread (is x) f n e = not-refused _ n e
+unread (refused k) f n e = cc
+
+module _ (ctx s : List ℕ) (ls ld : AddressField) (at : ℕ) (y : KeptRead) (p : ofKept y ≡ kept ctx ls ld s at) where
+  pub known : (k : Kept) → y ≡ KeptRead.Header k → Known ctx s ls ld at k
+  known k g =
+      let i = invert (iphc ctx ls ld s at) (λ q. is (keep (q .value) (nextNumber (q .value .«next_header») s (q .next)) (q .next))) k (sym p ∙ ap ofKept g) in
+      record { header = i .value .value; place = i .value .next; are-read = i .first; is-kept = sym (value-is _ _ (i .second)) }
+
+  pub unknown : (e : Refusal) → y ≡ KeptRead.Refused e → iphc ctx ls ld s at ≡ refused (numberOf e)
+  unknown e g = unread (iphc ctx ls ld s at) (λ q. keep (q .value) (nextNumber (q .value .«next_header») s (q .next)) (q .next)) (numberOf e) (ap ofKept (sym g) ∙ p)
+
+module _ (w : Way) (ctx s l : List ℕ) (ls ld : AddressField) (at : ℕ) (y : KeptRead) (i : ls ≡ identified (w .src)) (j : ld ≡ identified (w .dst)) (p : ofKept y ≡ kept ctx ls ld s at) where
   abbrev Headers : Walked → List ℕ → Type 0
-  Headers r o = Walks r w (headerThen ctx (inside (w .src)) (inside (w .dst)) (chain (w .left) ctx) s at) l o
+  Headers r o = Walks r w (headerThen ctx (identified (w .src)) (identified (w .dst)) (chain (w .left) ctx) s at) l o
 
-  pub header-refused : (e : Refusal) → y ≡ Parsed.Refused e → Headers (Walked.Refused e) l
+  pub header-refused : (e : Refusal) → y ≡ KeptRead.Refused e → Headers (Walked.Refused e) l
   unfolding headerThen
-  header-refused e g = rw (← i, ← j, sym p ∙ ap ofParsed g) (record { answer = refl; bytes = refl })
+  header-refused e g = rw (← i, ← j, unknown ctx s ls ld at y p e g) (record { answer = refl; bytes = refl })
 
-  module _ (h : Repr) (d : Cursor) (v : Way) (g : y ≡ Parsed.Header h d) (a : v ≡ entered h w) where
+  module _ (k : Kept) (v : Way) (g : y ≡ KeptRead.Header k) (a : v ≡ entered (k .src .iid) (k .dst .iid) w) where
+    abbrev h : Repr
+    h = known ctx s ls ld at y p k g .header
+
     abbrev to : ℕ
-    to = d .at
+    to = known ctx s ls ld at y p k g .place
+
+    abbrev number : ℕ
+    number = nextNumber (h .«next_header») s to
 
     abbrev behind-it : Read Chain
     behind-it = behindNext (h .«next_header») (chain (w .left) ctx (within h)) s to
 
-    inner : (r q : Walked) (n : List ℕ) → Walks r v (behindNext (h .«next_header») (chain (v .left) ctx (around v)) s to) l n → r ≡ q → Walks q (entered h w) behind-it l n
-    inner r q n X k = subst (λ z. Walks q z (behindNext (h .«next_header») (chain (z .left) ctx (around z)) s to) l n) a (subst (λ z. Walks z v (behindNext (h .«next_header») (chain (v .left) ctx (around v)) s to) l n) k X)
+    same : k ≡ keep h number to
+    same = known ctx s ls ld at y p k g .is-kept
 
-    pub header-on : (r : Walked) (len : ℕ) (u : UdpSum) (x z : ℕ) (n o : List ℕ) → x ≡ nextNumber (h .«next_header») s to → z ≡ totalOf (w .size) len - (w .at + 40) → Walks r v (behindNext (h .«next_header») (chain (v .left) ctx (around v)) s to) l n → r ≡ Walked.End len u → o ≡ put (w .at) (ipv6With h x z) n → Headers (Walked.End len u) o
-    unfolding headerThen
-    header-on r len u x z n o f e X k b =
-        rw (← i, ← j, sym p ∙ ap ofParsed g)
-        (walks-ipv6-go len u w h x z behind-it l n o e (λ c m q. f ∙ number-read (h .«next_header») (w .left) ctx (within h) s to c m q) (inner r (Walked.End len u) n X k) b)
+    inner : (r q : Walked) (n : List ℕ) → Walks r v (behindNext (k .next) (chain (v .left) ctx (around v)) s (k .at)) l n → r ≡ q → Walks q (entered (h .«src_addr» .iid) (h .«dst_addr» .iid) w) behind-it l n
+    inner r q n X e =
+        let Y : Walks q v (behindNext (k .next) (chain (v .left) ctx (around v)) s (k .at)) l n = subst (λ z. Walks z v (behindNext (k .next) (chain (v .left) ctx (around v)) s (k .at)) l n) e X in
+        let Z : Walks q (entered (k .src .iid) (k .dst .iid) w) (behindNext (k .next) (chain (w .left) ctx (around (entered (k .src .iid) (k .dst .iid) w))) s (k .at)) l n = subst (λ z. Walks q z (behindNext (k .next) (chain (z .left) ctx (around z)) s (k .at)) l n) a Y in
+        subst (λ m. Walks q (entered (h .«src_addr» .iid) (h .«dst_addr» .iid) w) m l n) (next-same (h .«next_header») (w .left) ctx (around (entered (h .«src_addr» .iid) (h .«dst_addr» .iid) w)) (within h) s to refl refl refl)
+        (subst (λ z. Walks q (entered (z .src .iid) (z .dst .iid) w) (behindNext (z .next) (chain (w .left) ctx (around (entered (z .src .iid) (z .dst .iid) w))) s (z .at)) l n) same Z)
 
-    pub header-no : (r : Walked) (e : Refusal) (n : List ℕ) → Walks r v (behindNext (h .«next_header») (chain (v .left) ctx (around v)) s to) l n → r ≡ Walked.Refused e → Headers (Walked.Refused e) n
+    pub header-on : (r : Walked) (len : ℕ) (u : UdpSum) (z : ℕ) (n o : List ℕ) → z ≡ totalOf (w .size) len - (w .at + 40) → Walks r v (behindNext (k .next) (chain (v .left) ctx (around v)) s (k .at)) l n → r ≡ Walked.End len u → o ≡ put (w .at) (keptFull k z) n → Headers (Walked.End len u) o
     unfolding headerThen
-    header-no r e n X k = rw (← i, ← j, sym p ∙ ap ofParsed g) (walks-ipv6-no e w h behind-it l n (inner r (Walked.Refused e) n X k))
+    header-on r len u z n o e X f b =
+        let b2 : o ≡ put (w .at) (ipv6With h number z) n = b ∙ ap (λ x. put (w .at) (keptFull x z) n) same ∙ ap (λ x. put (w .at) x n) (kept-full h number to z) in
+        rw (← i, ← j, known ctx s ls ld at y p k g .are-read)
+        (walks-ipv6-go len u w h number z behind-it l n o e (λ c m q. number-read (h .«next_header») (w .left) ctx (within h) s to c m q) (inner r (Walked.End len u) n X f) b2)
+
+    pub header-no : (r : Walked) (e : Refusal) (n : List ℕ) → Walks r v (behindNext (k .next) (chain (v .left) ctx (around v)) s (k .at)) l n → r ≡ Walked.Refused e → Headers (Walked.Refused e) n
+    unfolding headerThen
+    header-no r e n X f = rw (← i, ← j, known ctx s ls ld at y p k g .are-read) (walks-ipv6-no e w h behind-it l n (inner r (Walked.Refused e) n X f))
 
 -- ---- how far a step in code reads
-pub ext-facts : {y : Step} {x from to : ℕ} {then : NextHeader} (left : ℕ) (s : List ℕ) (at : ℕ) → ofLink y s ≡ link left s at → y ≡ Step.Extension x then from to → (at + 2 + (to - from) ≤ to) × (to ≤ length s) × (1 ≤ left)
-ext-facts {x = x} {from = from} {to = to} {then = then} left s at p g =
-    let t = link-steps left s at (extLink x (take (to - from) (drop from s)) then) to (sym p ∙ ap (λ z. ofLink z s) g) in
-    let k : length (take (to - from) (drop from s)) ≡ to - from = taken-length s from (to - from) (omega (arith, t .ends)) in
+pub ext-facts : {y : Step} {x : Extension} (left : ℕ) (s : List ℕ) (at : ℕ) → ofLink y s ≡ link left s at → y ≡ Step.Extension x → (at + 2 + (x .to - x .from) ≤ x .to) × (x .to ≤ length s) × (1 ≤ left)
+ext-facts {x = x} left s at p g =
+    let t = link-steps left s at (extOf x s) (x .to) (sym p ∙ ap (λ z. ofLink z s) g) in
+    let k : length (take (x .to - x .from) (drop (x .from) s)) ≡ x .to - x .from = taken-length s (x .from) (x .to - x .from) (omega (arith, t .ends)) in
     (omega (arith, t .reach, k), t .ends, t .wants)
 
 pub inner-facts : {y : Step} {n : ℕ} (left : ℕ) (s : List ℕ) (at : ℕ) → ofLink y s ≡ link left s at → y ≡ Step.Inner n → (at < n) × (n ≤ length s) × (1 ≤ left)
@@ -578,8 +658,10 @@ inner-facts {n = n} left s at p g =
     let t = link-steps left s at innerLink n (sym p ∙ ap (λ z. ofLink z s) g) in
     (t .reach, t .ends, t .wants)
 
-pub header-facts : {y : Parsed} {h : Repr} {d : Cursor} (ctx s : List ℕ) (ls ld : AddressField) (at : ℕ) → ofParsed y ≡ iphc ctx ls ld s at → y ≡ Parsed.Header h d → (at + 2 ≤ d .at) × (d .at ≤ length s)
-header-facts {h = h} {d = d} ctx s ls ld at p g = iphc-reach ctx ls ld s at h (d .at) (sym p ∙ ap ofParsed g)
+pub header-facts : {y : KeptRead} {k : Kept} (ctx s : List ℕ) (ls ld : AddressField) (at : ℕ) → ofKept y ≡ kept ctx ls ld s at → y ≡ KeptRead.Header k → (at + 2 ≤ k .at) × (k .at ≤ length s)
+header-facts {y = y} {k = k} ctx s ls ld at p g =
+    let b = known ctx s ls ld at y p k g in
+    subst (λ z. (at + 2 ≤ z .at) × (z .at ≤ length s)) (sym (b .is-kept)) (iphc-reach ctx ls ld s at (b .header) (b .place) (b .are-read))
 
 -- ---- RFC 6282, 3.2.2: the identifier of the address outside, its last 64 bits, whatever they are
 flip-back : (x : ℕ) → flip57 (flip57 x) ≡ x

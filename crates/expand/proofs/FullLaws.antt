@@ -9,8 +9,9 @@ use Rattle.octets.specs.declared.ipv6.Ipv6Addr.{Ipv6Addr}
 use Rattle.octets.proofs.Puts.{more, more-byte, more-be16, more-be32, more-be64}
 use Rattle.iphc.specs.declared.header.Repr.{Repr}
 use Rattle.sixlowpan.specs.declared.nhc.UdpNhcRepr.{UdpNhcRepr}
-use Rattle.expand.specs.Full.{wordOr, firstWord, frontWith, bothBytes, ipv6With, udpFull}
+use Rattle.expand.specs.Full.{wordOr, frontWith, bothBytes, ipv6With, keep, keptFront, keptFull, udpFull}
 use Rattle.expand.specs.Chain.{pad, fullSize, extFull}
+use Rattle.expand.specs.declared.ip.Kept.{Kept}
 
 -- ---- lengths
 pub length-ipv6 : (h : Repr) (next payload : ℕ) → length (ipv6With h next payload) ≡ 40
@@ -36,12 +37,12 @@ length-ext next d =
 moved : (l n bs : List ℕ) (a b : ℕ) → a ≡ b → n ≡ put a bs l → n ≡ put b bs l
 moved l n bs a b h e = e ∙ ap (λ k. put k bs l) h
 
-pub front-put : (at w : ℕ) (h : Repr) (next payload : ℕ) (l m n o r : List ℕ) → w ≡ firstWord h → m ≡ put at (be32Bytes w) l → n ≡ put (at + 4) (be16Bytes payload) m → o ≡ put (at + 6) (byteBytes next) n → r ≡ put (at + 7) (byteBytes (h .«hop_limit»)) o
-    → r ≡ put at (frontWith h next payload) l
-unfolding frontWith
-front-put at w h next payload l m n o r e a b c d =
-    more-be32 l m r at (firstWord h) _ (a ∙ ap (λ x. put at (be32Bytes x) l) e)
-    (more-be16 m n r (at + 4) payload _ b (moved n r _ (at + 6) (at + 4 + 2) (omega arith) (more-byte n o r (at + 6) next _ c (moved o r _ (at + 7) (at + 6 + 1) (omega arith) d))))
+pub front-put : (at : ℕ) (k : Kept) (payload : ℕ) (l m n o r : List ℕ) → m ≡ put at (be32Bytes (k .first)) l → n ≡ put (at + 4) (be16Bytes payload) m → o ≡ put (at + 6) (byteBytes (k .number)) n → r ≡ put (at + 7) (byteBytes (k .hops)) o
+    → r ≡ put at (keptFront k payload) l
+unfolding keptFront
+front-put at k payload l m n o r a b c d =
+    more-be32 l m r at (k .first) _ a
+    (more-be16 m n r (at + 4) payload _ b (moved n r _ (at + 6) (at + 4 + 2) (omega arith) (more-byte n o r (at + 6) (k .number) _ c (moved o r _ (at + 7) (at + 6 + 1) (omega arith) d))))
 
 pub both-put : (at : ℕ) (s d : Ipv6Addr) (l m n o r : List ℕ) → m ≡ put at (be64Bytes (s .prefix)) l → n ≡ put (at + 8) (be64Bytes (s .iid)) m → o ≡ put (at + 16) (be64Bytes (d .prefix)) n → r ≡ put (at + 24) (be64Bytes (d .iid)) o
     → r ≡ put at (bothBytes s d) l
@@ -50,13 +51,18 @@ both-put at s d l m n o r a b c e =
     more-be64 l m r at (s .prefix) _ a
     (more-be64 m n r (at + 8) (s .iid) _ b (moved n r _ (at + 16) (at + 8 + 8) (omega arith) (more-be64 n o r (at + 16) (d .prefix) _ c (moved o r _ (at + 24) (at + 16 + 8) (omega arith) e))))
 
-length-front : (h : Repr) (next payload : ℕ) → length (frontWith h next payload) ≡ 8
-unfolding frontWith byteBytes be16Bytes be32Bytes
-length-front h next payload = refl
+length-front : (k : Kept) (payload : ℕ) → length (keptFront k payload) ≡ 8
+unfolding keptFront byteBytes be16Bytes be32Bytes
+length-front k payload = refl
 
-pub ipv6-put : (at : ℕ) (h : Repr) (next payload : ℕ) (l m r : List ℕ) → m ≡ put at (frontWith h next payload) l → r ≡ put (at + 8) (bothBytes (h .«src_addr») (h .«dst_addr»)) m → r ≡ put at (ipv6With h next payload) l
-unfolding ipv6With
-ipv6-put at h next payload l m r a b = more l m r at 8 (frontWith h next payload) _ (length-front h next payload) a b
+pub ipv6-put : (at : ℕ) (k : Kept) (payload : ℕ) (l m r : List ℕ) → m ≡ put at (keptFront k payload) l → r ≡ put (at + 8) (bothBytes (k .src) (k .dst)) m → r ≡ put at (keptFull k payload) l
+unfolding keptFull
+ipv6-put at k payload l m r a b = more l m r at 8 (keptFront k payload) _ (length-front k payload) a b
+
+-- what is kept of a header has its bytes
+pub kept-full : (h : Repr) (number at payload : ℕ) → keptFull (keep h number at) payload ≡ ipv6With h number payload
+unfolding keptFull keptFront ipv6With frontWith
+kept-full h number at payload = refl
 
 pub udp-put : (at x : ℕ) (h : UdpNhcRepr) (len : ℕ) (l m n o r : List ℕ) → x ≡ wordOr (h .checksum) → m ≡ put at (be16Bytes (h .«src_port»)) l → n ≡ put (at + 2) (be16Bytes (h .«dst_port»)) m → o ≡ put (at + 4) (be16Bytes len) n → r ≡ put (at + 6) (be16Bytes x) o
     → r ≡ put at (udpFull h len) l

@@ -14,22 +14,22 @@ use Rattle.octets.specs.declared.refusal.Refusal.{Refusal}
 use Rattle.octets.specs.declared.field.WordField.{WordField}
 use Rattle.octets.proofs.Spans.{not-refused}
 use Rattle.octets.proofs.Puts.{put-front}
-use Rattle.octets.specs.declared.cursor.Cursor.{Cursor}
 use Rattle.expand.proofs.CopyLaws.{before}
 use Rattle.expand.proofs.Inverting.{value-is}
 use Rattle.ieee802154.specs.declared.addr.AddressField.{AddressField}
 use Rattle.iphc.specs.Iphc.{iphc}
-use Rattle.iphc.specs.Answers.{ofParsed}
 use Rattle.iphc.specs.declared.header.Repr.{Repr}
-use Rattle.iphc.specs.declared.header.Parsed.{Parsed}
-use Rattle.expand.specs.Full.{ipv6With, udpFull}
+use Rattle.expand.specs.Full.{ipv6With, udpFull, keep, keptFull}
 use Rattle.expand.specs.Expand.{Expansion, measureOf, finished, finishedIn, bytesOf, sized, expansion, headed, measured, answered, written}
-use Rattle.expand.specs.Chain.{Chain, rest, udpThen, extension, ipv6, within, behindNext, headerThen, chain, chained, nextNumber, headNumber, fullSize, extFull, sizeOf, fullBytes, sumIn, outer, ofWalked, ending, endOf, totalIn, Lays, Walks, totalOf, Measure}
+use Rattle.expand.specs.Chain.{Chain, rest, udpThen, extension, ipv6, within, behindNext, headerThen, chain, chained, nextNumber, headNumber, fullSize, extFull, sizeOf, fullBytes, sumIn, around, outer, ofWalked, ending, endOf, totalIn, Lays, Walks, totalOf, kept, ofKept, Measure}
 use Rattle.expand.specs.declared.checksum.UdpSum.{UdpSum}
+use Rattle.expand.specs.declared.ip.Kept.{Kept}
+use Rattle.expand.specs.declared.chain.KeptRead.{KeptRead}
 use Rattle.expand.specs.declared.chain.Walked.{Walked}
-use Rattle.expand.proofs.FullLaws.{length-ipv6, length-udp, length-ext}
+use Rattle.expand.specs.declared.chain.Way.{Way}
+use Rattle.expand.proofs.FullLaws.{length-ipv6, length-udp, length-ext, kept-full}
 use Rattle.expand.proofs.ExpandLaws.{finished-length, finished-front, over-is}
-use Rattle.expand.proofs.ChainLaws.{number-read, next-size}
+use Rattle.expand.proofs.ChainLaws.{number-read, next-same, known, unknown}
 
 -- ---- a chain's bytes are as many as it says
 pub length-full : (t o : ℕ) (c : Chain) → length (fullBytes t o c) ≡ sizeOf c
@@ -50,8 +50,11 @@ unfolding bytesOf
 length-bytes size c = finished-length size (sumIn false 0 0 c) (fullBytes (totalOf size (sizeOf c)) 0 c) ∙ length-full (totalOf size (sizeOf c)) 0 c
 
 -- ---- what the walk behind the outer header says
+abbrev wayOf : Repr → WordField → Way
+wayOf h size = outer (h .«src_addr» .iid) (h .«dst_addr» .iid) size
+
 -- a chain c behind the header h, in a room: the answer is that of the walk's end
-ended : (size : WordField) (h : Repr) (c : Chain) (room : List ℕ) → ending (outer h size) (length room) c ≡ answered (sized size (ipv6 h c)) room
+ended : (size : WordField) (h : Repr) (c : Chain) (room : List ℕ) → ending (wayOf h size) (length room) c ≡ answered (sized size (ipv6 h c)) room
 unfolding totalIn sized sizeOf sumIn
 ended size h c room = go (leb (40 + sizeOf c) (totalOf size (40 + sizeOf c)))
   where
@@ -79,11 +82,17 @@ module _ (ctx : List ℕ) (size : WordField) (h : Repr) (s : List ℕ) (at : ℕ
   abbrev pub behindOuter : Read Chain
   behindOuter = behindNext (h .«next_header») (chain 7 ctx (within h)) s at
 
-  headed-ended : (m : Read Chain) (room : List ℕ) → endOf (outer h size) (length room) m ≡ answered (andThen m (λ p. sized size (ipv6 h (p .value)))) room
+  headed-ended : (m : Read Chain) (room : List ℕ) → endOf (wayOf h size) (length room) m ≡ answered (andThen m (λ p. sized size (ipv6 h (p .value)))) room
   headed-ended (is p) room = ended size h (p .value) room
   headed-ended (refused n) room = refl
 
-  module _ (y : Walked) (room n : List ℕ) (W : Walks y (outer h size) behindOuter room n) where
+  -- k: what was kept of the outer header
+  module _ (k : Kept) (same : k ≡ keep h (nextNumber (h .«next_header») s at) at) (y : Walked) (room n : List ℕ) (X : Walks y (outer (k .src .iid) (k .dst .iid) size) (behindNext (k .next) (chain 7 ctx (around (outer (k .src .iid) (k .dst .iid) size))) s (k .at)) room n) where
+    W : Walks y (wayOf h size) behindOuter room n
+    W =
+        subst (λ m. Walks y (wayOf h size) m room n) (next-same (h .«next_header») 7 ctx (around (wayOf h size)) (within h) s at refl refl refl)
+        (subst (λ z. Walks y (outer (z .src .iid) (z .dst .iid) size) (behindNext (z .next) (chain 7 ctx (around (outer (z .src .iid) (z .dst .iid) size))) s (z .at)) room n) same X)
+
     answer-is : ofWalked y ≡ answered (headed ctx size h s at) room
     unfolding headed
     answer-is = W .answer ∙ headed-ended behindOuter room
@@ -91,16 +100,16 @@ module _ (ctx : List ℕ) (size : WordField) (h : Repr) (s : List ℕ) (at : ℕ
     pub walk-refused : (e : Refusal) → y ≡ Walked.Refused e → (refused (numberOf e) ≡ answered (headed ctx size h s at) room) × (n ≡ written (headed ctx size h s at) room)
     walk-refused e g =
         let q : refused (numberOf e) ≡ answered (headed ctx size h s at) room = ap ofWalked (sym g) ∙ answer-is in
-        (q, subst (λ z. Lays z (outer h size) behindOuter room n) g (W .bytes) ∙ unwritten (headed ctx size h s at) room (numberOf e) q)
+        (q, subst (λ z. Lays z (wayOf h size) behindOuter room n) g (W .bytes) ∙ unwritten (headed ctx size h s at) room (numberOf e) q)
 
     -- m: the room with the outer header put; out: with the checksum
     module _ (len : ℕ) (u : UdpSum) (g : y ≡ Walked.End len u) where
       pub walk-answered : is (record { len = len; sum = u }) ≡ answered (headed ctx size h s at) room
       walk-answered = ap ofWalked (sym g) ∙ answer-is
 
-      pub walk-written : (x z : ℕ) (m out : List ℕ) → x ≡ nextNumber (h .«next_header») s at → z ≡ totalOf size len - 40 → m ≡ put 0 (ipv6With h x z) n → out ≡ finishedIn size u len m → out ≡ written (headed ctx size h s at) room
+      put-written : (x z : ℕ) (m out : List ℕ) → x ≡ nextNumber (h .«next_header») s at → z ≡ totalOf size len - 40 → m ≡ put 0 (ipv6With h x z) n → out ≡ finishedIn size u len m → out ≡ written (headed ctx size h s at) room
       unfolding headed sized bytesOf fullBytes
-      walk-written x z m out f e a q = go behindOuter refl (subst (λ v. Lays v (outer h size) behindOuter room n) g (W .bytes)) walk-answered
+      put-written x z m out f e a q = go behindOuter refl (subst (λ v. Lays v (wayOf h size) behindOuter room n) g (W .bytes)) walk-answered
         where
           -- the chain c was read, and its room holds it
           put-all : (c : Chain) (k : ℕ) → behindOuter ≡ got c k → n ≡ put 40 (fullBytes (totalOf size len) 40 c) room → (t : Bool) → leb (sizeOf (ipv6 h c)) (totalOf size (sizeOf (ipv6 h c))) ≡ t
@@ -135,9 +144,12 @@ module _ (ctx : List ℕ) (size : WordField) (h : Repr) (s : List ℕ) (at : ℕ
                   ∙ ap (λ v. finished size (sumIn false 0 0 (ipv6 h c)) (fullBytes (totalOf size v) 0 (ipv6 h c)) ++ drop len room) size-is
                   ∙ sym (over-is (bytesOf size (ipv6 h c)) room len (sym len-is) (omega (arith, len-is, room-is)))
 
-          go : (r : Read Chain) → behindOuter ≡ r → Lays (Walked.End len u) (outer h size) r room n → is (record { len = len; sum = u }) ≡ answered (andThen r (λ p. sized size (ipv6 h (p .value)))) room → out ≡ written (andThen r (λ p. sized size (ipv6 h (p .value)))) room
+          go : (r : Read Chain) → behindOuter ≡ r → Lays (Walked.End len u) (wayOf h size) r room n → is (record { len = len; sum = u }) ≡ answered (andThen r (λ p. sized size (ipv6 h (p .value)))) room → out ≡ written (andThen r (λ p. sized size (ipv6 h (p .value)))) room
           go (refused k) r b w = not-refused _ k (sym w)
           go (is p) r b w = put-all (p .value) (p .next) r b (leb (sizeOf (ipv6 h (p .value))) (totalOf size (sizeOf (ipv6 h (p .value))))) refl w
+
+      pub walk-written : (z : ℕ) (m out : List ℕ) → z ≡ totalOf size len - 40 → m ≡ put 0 (keptFull k z) n → out ≡ finishedIn size u len m → out ≡ written (headed ctx size h s at) room
+      walk-written z m out e a q = put-written (nextNumber (h .«next_header») s at) z m out refl e (a ∙ ap (λ x. put 0 (keptFull x z) n) same ∙ ap (λ x. put 0 x n) (kept-full h (nextNumber (h .«next_header») s at) at z)) q
 
 -- ---- the frame as a whole
 join-go : (size : WordField) (h : Repr) (m : Read Chain) → andThen (andThen m (λ q. got (ipv6 h (q .value)) (q .next))) (λ p. sized size (p .value)) ≡ andThen m (λ p. sized size (ipv6 h (p .value)))
@@ -149,17 +161,20 @@ module _ (ctx : List ℕ) (ls ld : AddressField) (size : WordField) (s : List �
   unfolding expansion
   expansion-long k = rw (lt-ltb 127 (length s) k) refl
 
-  pub expansion-on : (y : Parsed) (h : Repr) (d : Cursor) → length s ≤ 127 → ofParsed y ≡ iphc ctx ls ld s at → y ≡ Parsed.Header h d → expansion ctx ls ld size s at ≡ headed ctx size h s (d .at)
+  expansion-on : (h : Repr) (n : ℕ) → length s ≤ 127 → iphc ctx ls ld s at ≡ got h n → expansion ctx ls ld size s at ≡ headed ctx size h s n
   unfolding expansion chained headerThen headed
-  expansion-on y h d k p q = rw (le-ltb 127 (length s) k, ← p, q) (join-go size h (behindNext (h .«next_header») (chain 7 ctx (within h)) s (d .at)))
+  expansion-on h n k p = rw (le-ltb 127 (length s) k, p) (join-go size h (behindNext (h .«next_header») (chain 7 ctx (within h)) s n))
 
-  pub expansion-no : (y : Parsed) (e : Refusal) → length s ≤ 127 → ofParsed y ≡ iphc ctx ls ld s at → y ≡ Parsed.Refused e → expansion ctx ls ld size s at ≡ refused (numberOf e)
+  expansion-no : (e : ℕ) → length s ≤ 127 → iphc ctx ls ld s at ≡ refused e → expansion ctx ls ld size s at ≡ refused e
   unfolding expansion chained headerThen
-  expansion-no y e k p q = rw (le-ltb 127 (length s) k, ← p, q) refl
+  expansion-no e k p = rw (le-ltb 127 (length s) k, p) refl
 
--- f: what is answered, or what is written
-pub on-expansion : {X : Type 0} (f : Answer Expansion → X) (r : X) (y : Parsed) (h : Repr) (d : Cursor) (ctx : List ℕ) (ls ld : AddressField) (size : WordField) (s : List ℕ) (at : ℕ) → length s ≤ 127 → ofParsed y ≡ iphc ctx ls ld s at → y ≡ Parsed.Header h d → r ≡ f (headed ctx size h s (d .at)) → r ≡ f (expansion ctx ls ld size s at)
-on-expansion f r y h d ctx ls ld size s at k p q e = e ∙ ap f (sym (expansion-on ctx ls ld size s at y h d k p q))
+  -- f: what is answered, or what is written
+  module _ {X : Type 0} (f : Answer Expansion → X) (r : X) (y : KeptRead) (l : length s ≤ 127) (p : ofKept y ≡ kept ctx ls ld s at) where
+    pub on-expansion : (k : Kept) → y ≡ KeptRead.Header k → ((h : Repr) (n : ℕ) → k ≡ keep h (nextNumber (h .«next_header») s n) n → r ≡ f (headed ctx size h s n)) → r ≡ f (expansion ctx ls ld size s at)
+    on-expansion k q e =
+        let b = known ctx s ls ld at y p k q in
+        e (b .header) (b .place) (b .is-kept) ∙ ap f (sym (expansion-on (b .header) (b .place) l (b .are-read)))
 
-pub no-expansion : {X : Type 0} (f : Answer Expansion → X) (r : X) (y : Parsed) (e : Refusal) (ctx : List ℕ) (ls ld : AddressField) (size : WordField) (s : List ℕ) (at : ℕ) → length s ≤ 127 → ofParsed y ≡ iphc ctx ls ld s at → y ≡ Parsed.Refused e → r ≡ f (refused (numberOf e)) → r ≡ f (expansion ctx ls ld size s at)
-no-expansion f r y e ctx ls ld size s at k p q g = g ∙ ap f (sym (expansion-no ctx ls ld size s at y e k p q))
+    pub no-expansion : (e : Refusal) → y ≡ KeptRead.Refused e → r ≡ f (refused (numberOf e)) → r ≡ f (expansion ctx ls ld size s at)
+    no-expansion e q g = g ∙ ap f (sym (expansion-no (numberOf e) l (unknown ctx s ls ld at y p e q)))

@@ -16,7 +16,6 @@ use Rattle.octets.specs.declared.refusal.Refusal.{Refusal}
 use Rattle.octets.specs.declared.cursor.Cursor.{Cursor}
 use Rattle.octets.specs.declared.cursor.Skipped.{Skipped}
 use Rattle.octets.specs.declared.field.WordField.{WordField}
-use Rattle.octets.specs.declared.ipv6.Ipv6Addr.{Ipv6Addr}
 use Rattle.ieee802154.specs.declared.addr.Address.the-variants.{Extended}
 use Rattle.ieee802154.specs.declared.addr.AddressField.{AddressField}
 use Rattle.sixlowpan.specs.NhcExt.{idOf}
@@ -29,7 +28,7 @@ use Rattle.sixlowpan.specs.declared.nhc.ExtHeaderId.{ExtHeaderId}
 use Rattle.sixlowpan.specs.declared.nhc.ExtHeaderId.the-variants.{HopByHopHeader, RoutingHeader, FragmentHeader, DestinationOptionsHeader, MobilityHeader, Header, Reserved}
 use Rattle.expand.specs.Full.{isAbsent}
 use Rattle.expand.specs.Sum.{noSum, elidedAt, carriedAt}
-use Rattle.expand.specs.Chain.{Link, extLink, fullNumber, isPadded, badLength, idAt, octets, extKind, extBody, innerByte, udpStep, linkOf, inside, nhcNumber, nextNumber, sumFor, fullSize, passed}
+use Rattle.expand.specs.Chain.{Link, extLink, fullNumber, isPadded, badLength, idAt, octets, extKind, extBody, innerByte, udpStep, linkOf, identified, nhcNumber, nextNumber, sumFor, fullSize, passed}
 use Rattle.expand.specs.declared.checksum.UdpSum.{UdpSum}
 use Rattle.expand.specs.declared.chain.Way.{Way}
 
@@ -111,11 +110,11 @@ number-udp next s at q p h = rw (q, ne-eqb (getD s at 0 / 16) 0b1110 (λ z. h (a
 pub ruleset numbers = (number-ext, number-udp)
 
 -- ---- what stands around
-pub inside-plus : (a : Ipv6Addr) → a .iid / 2 ^ 57 % 2 ≡ 0 → AddressField.Some (Extended (a .iid + 2 ^ 57)) ≡ inside a
-inside-plus a h = rw (eq-eqb (a .iid / 2 ^ 57 % 2) 0 h) refl
+pub inside-plus : (i : ℕ) → i / 2 ^ 57 % 2 ≡ 0 → AddressField.Some (Extended (i + 2 ^ 57)) ≡ identified i
+inside-plus i h = rw (eq-eqb (i / 2 ^ 57 % 2) 0 h) refl
 
-pub inside-minus : (a : Ipv6Addr) → (a .iid / 2 ^ 57 % 2 ≡ 0 → ⊥) → AddressField.Some (Extended (a .iid - 2 ^ 57)) ≡ inside a
-inside-minus a h = rw (ne-eqb (a .iid / 2 ^ 57 % 2) 0 h) refl
+pub inside-minus : (i : ℕ) → (i / 2 ^ 57 % 2 ≡ 0 → ⊥) → AddressField.Some (Extended (i - 2 ^ 57)) ≡ identified i
+inside-minus i h = rw (ne-eqb (i / 2 ^ 57 % 2) 0 h) refl
 
 pub ruleset insides = (inside-plus, inside-minus)
 

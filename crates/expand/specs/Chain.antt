@@ -28,9 +28,12 @@ use Rattle.sixlowpan.specs.declared.nhc.ExtHeaderId.the-variants.{HopByHopHeade
 use Rattle.sixlowpan.specs.declared.nhc.ExtHeaderRepr.{ExtHeaderRepr}
 use Rattle.sixlowpan.specs.declared.nhc.UdpNhcRepr.{UdpNhcRepr}
 use Rattle.expand.specs.Sum.{noSum, elidedAt, carriedAt}
-use Rattle.expand.specs.Full.{ipv6With, udpFull, isAbsent}
+use Rattle.expand.specs.Full.{ipv6With, udpFull, isAbsent, keep}
 use Rattle.expand.specs.Rfc8200.{Last}
 use Rattle.expand.specs.declared.checksum.UdpSum.{UdpSum}
+use Rattle.expand.specs.declared.ip.Kept.{Kept}
+use Rattle.expand.specs.declared.chain.Extension.{Extension}
+use Rattle.expand.specs.declared.chain.KeptRead.{KeptRead}
 use Rattle.expand.specs.declared.chain.Step.{Step}
 use Rattle.expand.specs.declared.chain.Way.{Way}
 use Rattle.expand.specs.declared.chain.Walked.{Walked}
@@ -257,15 +260,23 @@ lastOf (extension n d c) = lastOf c
 lastOf (ipv6 h c) = lastOf c
 
 -- ---- what the contracts say
--- a step of the code, in the frame s
+-- an extension header that was read, and a step of the code, in the frame s
+abbrev pub extOf : Extension → List ℕ → Link
+extOf x s = extLink (x .number) (take (x .to - x .from) (drop (x .from) s)) (x .next)
+
 abbrev pub ofLink : Step → List ℕ → Read Link
 ofLink (Step.Udp h n) s = got (udpLink h) n
-ofLink (Step.Extension n next from to) s = got (extLink n (take (to - from) (drop from s)) next) to
+ofLink (Step.Extension x) s = got (extOf x s) (x .to)
 ofLink (Step.Inner n) s = got innerLink n
 ofLink (Step.Refused e) s = refused (Refusal.numberOf e)
 
+-- the link-layer address that has an identifier: `inside` of an address that has it
+abbrev pub identified : ℕ → AddressField
+identified i = AddressField.Some (Extended (flip57 i))
+
+-- of the addresses outside the code keeps the identifiers: what is inside does not depend on their prefixes (`chain-same`, proofs/ChainLaws.antt)
 abbrev pub around : Way → Around
-around w = record { src = w .src; dst = w .dst; routed = w .routed }
+around w = record { src = record { prefix = 0; iid = w .src }; dst = record { prefix = 0; iid = w .dst }; routed = w .routed }
 
 -- behind an extension header of the number n, with len bytes behind its first two; inside an IPv6 header; and with one header fewer to come
 abbrev pub passed : ℕ → ℕ → Way → Way
@@ -279,15 +290,23 @@ passed n len w = record {
   size = w .size;
 }
 
-abbrev pub entered : Repr → Way → Way
-entered h w = record { src = h .«src_addr»; dst = h .«dst_addr»; routed = false; left = w .left; ip = w .at; at = w .at + 40; size = w .size }
+abbrev pub entered : ℕ → ℕ → Way → Way
+entered src dst w = record { src = src; dst = dst; routed = false; left = w .left; ip = w .at; at = w .at + 40; size = w .size }
 
 -- behind the outer IPv6 header, where seven headers more may come; size: that of the whole datagram where the frame is its first part
-abbrev pub outer : Repr → WordField → Way
-outer h size = record { src = h .«src_addr»; dst = h .«dst_addr»; routed = false; left = 7; ip = 0; at = 40; size = size }
+abbrev pub outer : ℕ → ℕ → WordField → Way
+outer src dst size = record { src = src; dst = dst; routed = false; left = 7; ip = 0; at = 40; size = size }
 
 abbrev pub fewer : Way → Way
 fewer w = record { src = w .src; dst = w .dst; routed = w .routed; left = w .left - 1; ip = w .ip; at = w .at; size = w .size }
+
+-- an IPv6 header as it is kept
+abbrev pub kept : List ℕ → AddressField → AddressField → List ℕ → ℕ → Answer Kept
+kept ctx ls ld s at = andThen (iphc ctx ls ld s at) (λ p. is (keep (p .value) (nextNumber (p .value .«next_header») s (p .next)) (p .next)))
+
+abbrev pub ofKept : KeptRead → Answer Kept
+ofKept (KeptRead.Header k) = is k
+ofKept (KeptRead.Refused e) = refused (Refusal.numberOf e)
 
 -- how long a datagram gets, or its first part, and what is to be remembered of its checksum
 pub record Measure : Type 0 where

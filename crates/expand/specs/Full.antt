@@ -9,6 +9,7 @@ use Rattle.octets.specs.declared.ipv6.Ipv6Addr.{Ipv6Addr}
 use Rattle.iphc.specs.declared.label.LabelField.{LabelField}
 use Rattle.iphc.specs.declared.header.Repr.{Repr}
 use Rattle.sixlowpan.specs.declared.nhc.UdpNhcRepr.{UdpNhcRepr}
+use Rattle.expand.specs.declared.ip.Kept.{Kept}
 
 -- an absent field is 0
 abbrev pub byteOr : ByteField → ℕ
@@ -42,6 +43,24 @@ bothBytes src dst = be64Bytes (src .prefix) ++ (be64Bytes (src .iid) ++ (be64Byt
 
 unfoldable pub ipv6With : Repr → ℕ → ℕ → List ℕ
 ipv6With h next payload = frontWith h next payload ++ bothBytes (h .«src_addr») (h .«dst_addr»)
+
+-- what is kept of a header, and its bytes (`kept-full`, proofs/FullLaws.antt); number: what its next header field stands for; at: the place behind it
+abbrev pub keep : Repr → ℕ → ℕ → Kept
+keep h number at = record {
+  src = h .«src_addr»;
+  dst = h .«dst_addr»;
+  first = firstWord h;
+  number = number;
+  hops = h .«hop_limit»;
+  next = h .«next_header»;
+  at = at;
+}
+
+unfoldable pub keptFront : Kept → ℕ → List ℕ
+keptFront k payload = be32Bytes (k .first) ++ (be16Bytes payload ++ (byteBytes (k .number) ++ byteBytes (k .hops)))
+
+unfoldable pub keptFull : Kept → ℕ → List ℕ
+keptFull k payload = keptFront k payload ++ bothBytes (k .src) (k .dst)
 
 -- ---- RFC 768: source port, destination port, length, checksum, 16 bits each; an elided checksum is 0 here
 unfoldable pub udpFull : UdpNhcRepr → ℕ → List ℕ

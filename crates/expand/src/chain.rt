@@ -10,12 +10,14 @@ ghost use Rattle.octets.specs.Read.{got};
 ghost use Rattle.octets.specs.Write.{put};
 ghost use Rattle.expand.specs.Full.{isAbsent};
 ghost use Rattle.expand.specs.Chain.{fullNumber, isPadded, badLength, fullSize, idAt, extKind, extData, extBody};
-ghost use Rattle.expand.specs.Chain.{innerByte, udpStep, link, inside, headerThen, behindNext, udpEnd, chain};
-ghost use Rattle.expand.specs.Chain.{nextNumber, sumFor, passed, entered, fewer, ofLink, around, rest, totalOf, totalIn, ofTotal};
-ghost use Rattle.expand.specs.Chain.{Walks};
+ghost use Rattle.expand.specs.Chain.{innerByte, udpStep, link, identified, headerThen, behindNext, udpEnd, chain};
+ghost use Rattle.expand.specs.Chain.{nextNumber, sumFor, passed, entered, fewer, ofLink, around, rest, totalOf};
+ghost use Rattle.expand.specs.Chain.{totalIn, ofTotal, Walks, onward, extOf, ofKept, kept};
 use super::checksum::UdpSum;
 use super::copy::left;
 use super::copy::put_slice;
+use super::ip::Kept;
+use super::ip::first_word;
 use super::ip::full_size;
 use super::ip::put_extension;
 use super::ip::put_ipv6;
@@ -28,7 +30,6 @@ use octets::cursor::ByteRead;
 use octets::cursor::Cursor;
 use octets::cursor::Skipped;
 use octets::field::WordField;
-use octets::ipv6::Ipv6Addr;
 use octets::refusal::Refusal;
 use sixlowpan::NextHeader;
 use sixlowpan::nhc::ExtHeaderId;
@@ -39,26 +40,30 @@ use sixlowpan::nhc::NhcPacket;
 use sixlowpan::nhc::UdpNhcRepr;
 use sixlowpan::nhc::UdpParsed;
 
-// What stands at a place of a chain, and the place behind it: a UDP header; an extension header, its number, its next
-// header field and where what follows its first two bytes stands; or the byte in front of an IPv6 header.
+// An extension header: its number, its next header field, and where in the frame what follows its first two bytes is.
+pub struct Extension {
+    pub number: u8,
+    pub next: NextHeader,
+    pub from: usize,
+    pub to: usize,
+}
+
+// What stands at a place of a chain, and the place behind it: a UDP header; an extension header; or the byte in front
+// of an IPv6 header.
 pub enum Step {
     Udp(UdpNhcRepr, usize),
-    Extension {
-        number: u8,
-        next: NextHeader,
-        from: usize,
-        to: usize,
-    },
+    Extension(Extension),
     Inner(usize),
     Refused(Refusal),
 }
 
-// How far an expansion has come: the addresses of the IPv6 header just outside, whether a routing header came since,
-// how many headers may still come, and in the datagram where that IPv6 header stands and where the next header goes;
-// `size` is the size of the whole datagram where the frame is its first part.
+// How far an expansion has come: the identifiers of the addresses of the IPv6 header just outside, whether a routing
+// header came since, how many headers may still come, and in the datagram where that IPv6 header stands and where the
+// next header goes; `size` is the size of the whole datagram where the frame is its first part. There is one for each
+// header on the stack, so it has nothing that is not read.
 pub struct Way {
-    pub src: Ipv6Addr,
-    pub dst: Ipv6Addr,
+    pub src: u64,
+    pub dst: u64,
     pub routed: bool,
     pub left: u8,
     pub ip: u16,
@@ -69,6 +74,12 @@ pub struct Way {
 // Where the datagram ends, or its first part, and what is to be remembered of its checksum.
 pub enum Walked {
     End { len: u16, sum: UdpSum },
+    Refused(Refusal),
+}
+
+// What is kept of an IPv6 header, or why there is none.
+pub enum KeptRead {
+    Header(Kept),
     Refused(Refusal),
 }
 
@@ -167,12 +178,12 @@ fn read_data(frame: &[u8], id: ExtHeaderId, h: ExtHeaderRepr, c: Cursor) -> Step
     let next = h.next_header;
     let number = number_of(id);
     match c.skip(frame, h.length as usize) {
-        Skipped::Past(d) => Step::Extension {
+        Skipped::Past(d) => Step::Extension(Extension {
             number,
             next,
             from: c.at,
             to: d.at,
-        },
+        }),
         Skipped::Refused(e) => Step::Refused(e),
     }
 }
@@ -234,11 +245,10 @@ fn read_step(frame: &[u8], c: Cursor, left: u8) -> Step
     }
 }
 
-// The link-layer address whose identifier is that of an IPv6 address: the universal/local bit is inverted.
-fn inside(a: Ipv6Addr) -> AddressField
-    ensures { λ r. ⌜ r ≡ inside a ⌝ }
+// The link-layer address that has an identifier: the universal/local bit is inverted.
+fn inside(i: u64) -> AddressField
+    ensures { λ r. ⌜ r ≡ identified i ⌝ }
 {
-    let i = a.iid;
     if i / 0x200_0000_0000_0000 % 2 == 0 {
         return AddressField::Some(Address::Extended(i + 0x200_0000_0000_0000));
     }
@@ -382,13 +392,11 @@ impl Way {
         v
     }
 
-    // Inside an IPv6 header.
-    fn within(self, ip: Repr) -> Way
+    // Inside an IPv6 header, by the identifiers of its addresses.
+    fn within(self, src: u64, dst: u64) -> Way
         requires { ⌜ self .at + 40 ≤ 65535 ⌝ }
-        ensures { λ r. ⌜ r ≡ entered ip self ⌝ }
+        ensures { λ r. ⌜ r ≡ entered src dst self ⌝ }
     {
-        let src = ip.src_addr;
-        let dst = ip.dst_addr;
         let size = self.size;
         Way {
             src,
@@ -422,35 +430,95 @@ fn is_routed(number: u8, routed: bool) -> bool
     routed
 }
 
+// Reads an IPv6 header. `expand` and `header` both call it, so that what reading takes is not on the stack while the
+// chain is read.
+pub(crate) fn read_kept(
+    frame: &[u8],
+    c: Cursor,
+    src: AddressField,
+    dst: AddressField,
+    contexts: &[u8],
+) -> KeptRead
+    ensures { λ r. ⌜ ofKept r ≡ kept (now (contexts .entry)) src dst (now (frame .entry)) (c .at) ⌝ }
+{
+    match Repr::read(frame, c, src, dst, contexts) {
+        Parsed::Header(ip, d) => {
+            let src = ip.src_addr;
+            let dst = ip.dst_addr;
+            let next = ip.next_header;
+            let number = next_number(frame, next, d.at);
+            let first = first_word(ip);
+            KeptRead::Header(Kept {
+                src,
+                dst,
+                first,
+                number,
+                hops: ip.hop_limit,
+                next,
+                at: d.at,
+            })
+        }
+        Parsed::Refused(e) => KeptRead::Refused(e),
+    }
+}
+
 // An IPv6 header inside another one, and the chain behind it.
 pub(crate) fn header(frame: &[u8], c: Cursor, contexts: &[u8], w: Way, out: &mut [u8]) -> Walked
     requires { ⌜ (w .at + 40 * (w .left + 1) + (length (now frame) - c .at) ≤ 447) × (length (now frame) ≤ 127) ⌝ }
-    ensures { λ r. ⌜ Walks r w (headerThen (now (contexts .entry)) (inside (w .src)) (inside (w .dst))
+    ensures { λ r. ⌜ Walks r w (headerThen (now (contexts .entry)) (identified (w .src)) (identified (w .dst))
         (chain (w .left) (now (contexts .entry))) (now (frame .entry)) (c .at)) (now (out .entry)) (now (out .exit)) ⌝ }
 {
-    let src = w.src;
-    let dst = w.dst;
-    match Repr::read(frame, c, inside(src), inside(dst), contexts) {
-        Parsed::Header(ip, d) => {
-            let next = ip.next_header;
+    match read_kept(frame, c, inside(w.src), inside(w.dst), contexts) {
+        KeptRead::Header(ip) => {
+            let src = ip.src;
+            let dst = ip.dst;
+            let next = ip.next;
             let o = w.at;
             let size = w.size;
-            match chain(frame, next, d, contexts, w.within(ip), out) {
+            match chain(
+                frame,
+                next,
+                Cursor { at: ip.at },
+                contexts,
+                w.within(src.iid, dst.iid),
+                out,
+            ) {
                 Walked::End { len, sum } => {
-                    let number = next_number(frame, next, d.at);
-                    put_ipv6(
-                        out,
-                        o as usize,
-                        ip,
-                        number,
-                        less(total_of(size, len), o + 40),
-                    );
+                    put_ipv6(out, o as usize, ip, less(total_of(size, len), o + 40));
                     Walked::End { len, sum }
                 }
                 Walked::Refused(e) => Walked::Refused(e),
             }
         }
-        Parsed::Refused(e) => Walked::Refused(e),
+        KeptRead::Refused(e) => Walked::Refused(e),
+    }
+}
+
+// An extension header, and the chain behind it. It is a function of its own, as `header` is, so that the two share
+// their place on the stack in each round of `chain`.
+fn behind(frame: &[u8], x: Extension, contexts: &[u8], w: Way, out: &mut [u8]) -> Walked
+    requires { ⌜ (w .at + 40 * w .left + (x .to - x .from) + (length (now frame) - x .to) ≤ 447) × (1 ≤ w .left)
+        × (x .to ≤ length (now frame)) × (length (now frame) ≤ 127) ⌝ }
+    ensures { λ r. ⌜ Walks r w (onward (now (contexts .entry)) (chain (w .left - 1) (now (contexts .entry))) (around w)
+        (extOf x (now (frame .entry))) (now (frame .entry)) (x .to)) (now (out .entry)) (now (out .exit)) ⌝ }
+{
+    let next = x.next;
+    let o = w.at;
+    let n = span(x.from, x.to);
+    match chain(
+        frame,
+        next,
+        Cursor { at: x.to },
+        contexts,
+        w.past(x.number, n),
+        out,
+    ) {
+        Walked::End { len, sum } => {
+            let number = next_number(frame, next, x.to);
+            put_extension(out, o as usize, number, frame, x.from, n);
+            Walked::End { len, sum }
+        }
+        Walked::Refused(e) => Walked::Refused(e),
     }
 }
 
@@ -472,35 +540,7 @@ pub(crate) fn chain(
         NextHeader::Uncompressed(_) => end_rest(frame, c.at, w, out),
         NextHeader::Compressed => match read_step(frame, c, w.left) {
             Step::Udp(h, n) => end_udp(frame, n, h, w, out),
-            Step::Extension {
-                number,
-                next: then,
-                from,
-                to,
-            } => {
-                let n = span(from, to);
-                match chain(
-                    frame,
-                    then,
-                    Cursor { at: to },
-                    contexts,
-                    w.past(number, n),
-                    out,
-                ) {
-                    Walked::End { len, sum } => {
-                        put_extension(
-                            out,
-                            w.at as usize,
-                            next_number(frame, then, to),
-                            frame,
-                            from,
-                            n,
-                        );
-                        Walked::End { len, sum }
-                    }
-                    Walked::Refused(e) => Walked::Refused(e),
-                }
-            }
+            Step::Extension(x) => behind(frame, x, contexts, w, out),
             Step::Inner(n) => header(frame, Cursor { at: n }, contexts, w.fewer(), out),
             Step::Refused(e) => Walked::Refused(e),
         },

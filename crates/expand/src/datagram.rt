@@ -1,22 +1,25 @@
 // The datagram that a frame stands for.
 ghost use mathlib.Core.Path.{_≡_};
-ghost use Prim.Native.Nat.{_≤_, _+_};
+ghost use Prim.Native.Nat.{ℕ, _≤_, _+_};
 ghost use lib.ListN.{length};
 ghost use Rattle.expand.specs.Sum.{summedIn};
 ghost use Rattle.expand.specs.Expand.{ofExpanded, finishedIn, headed, expansion, measured, answered};
 ghost use Rattle.expand.specs.Expand.{written};
+ghost use Rattle.expand.specs.Full.{keep};
+ghost use Rattle.expand.specs.Chain.{nextNumber};
+ghost use Rattle.iphc.specs.declared.header.Repr.{Repr};
+use super::chain::KeptRead;
 use super::chain::Walked;
 use super::chain::Way;
 use super::chain::chain;
 use super::chain::less;
-use super::chain::next_number;
+use super::chain::read_kept;
 use super::chain::total_of;
 use super::checksum::UdpSum;
 use super::checksum::put_checksum;
+use super::ip::Kept;
 use super::ip::put_ipv6;
 use ieee802154::addr::AddressField;
-use iphc::Parsed;
-use iphc::Repr;
 use octets::cursor::Cursor;
 use octets::field::WordField;
 use octets::refusal::Refusal;
@@ -45,34 +48,32 @@ fn put_elided(buf: &mut [u8], size: WordField, n: usize, m: UdpSum)
 // Writes the datagram whose IPv6 header was read: at most seven headers more, and then that one.
 fn expand_headed(
     frame: &[u8],
-    ip: Repr,
-    c: Cursor,
+    ip: Kept,
     contexts: &[u8],
     size: WordField,
     out: &mut [u8],
 ) -> Expanded
     requires { ⌜ length (now frame) ≤ 127 ⌝ }
-    ensures { λ r. ⌜ (ofExpanded r ≡ answered (headed (now (contexts .entry)) size ip (now (frame .entry)) (c .at))
-        (now (out .entry)))
-        × (now (out .exit) ≡ written (headed (now (contexts .entry)) size ip (now (frame .entry)) (c .at))
-        (now (out .entry))) ⌝ }
+    ensures { λ r. ⌜ ((h : Repr) (at : ℕ) → ip ≡ keep h (nextNumber (h .«next_header») (now (frame .entry)) at) at
+        → (ofExpanded r ≡ answered (headed (now (contexts .entry)) size h (now (frame .entry)) at) (now (out .entry)))
+        × (now (out .exit) ≡ written (headed (now (contexts .entry)) size h (now (frame .entry)) at)
+        (now (out .entry)))) ⌝ }
 {
-    let next = ip.next_header;
-    let src = ip.src_addr;
-    let dst = ip.dst_addr;
+    let next = ip.next;
+    let src = ip.src;
+    let dst = ip.dst;
     let w = Way {
-        src,
-        dst,
+        src: src.iid,
+        dst: dst.iid,
         routed: false,
         left: 7,
         ip: 0,
         at: 40,
         size,
     };
-    match chain(frame, next, c, contexts, w, out) {
+    match chain(frame, next, Cursor { at: ip.at }, contexts, w, out) {
         Walked::End { len, sum } => {
-            let number = next_number(frame, next, c.at);
-            put_ipv6(out, 0, ip, number, less(total_of(size, len), 40));
+            put_ipv6(out, 0, ip, less(total_of(size, len), 40));
             let len = len as usize;
             put_elided(out, size, len, sum);
             Expanded::Datagram { len, sum }
@@ -99,9 +100,9 @@ pub fn expand(
     if 127 < frame.len() {
         return Expanded::Refused(Refusal::BadLength);
     }
-    match Repr::read(frame, c, ll_src, ll_dst, contexts) {
-        Parsed::Header(ip, d) => expand_headed(frame, ip, d, contexts, size, out),
-        Parsed::Refused(e) => Expanded::Refused(e),
+    match read_kept(frame, c, ll_src, ll_dst, contexts) {
+        KeptRead::Header(ip) => expand_headed(frame, ip, contexts, size, out),
+        KeptRead::Refused(e) => Expanded::Refused(e),
     }
 }
 

@@ -3,7 +3,7 @@ ghost use mathlib.Core.Path.{_≡_};
 ghost use Prim.Native.Nat.{_<_, _≤_, _+_, _-_};
 ghost use lib.ListN.{length, take, drop};
 ghost use Rattle.octets.specs.Write.{put};
-ghost use Rattle.expand.specs.Full.{byteOr, wordOr, labelOr, classOf, firstWord, frontWith, bothBytes, ipv6With};
+ghost use Rattle.expand.specs.Full.{byteOr, wordOr, labelOr, classOf, firstWord, bothBytes, keptFront, keptFull};
 ghost use Rattle.expand.specs.Full.{udpFull};
 ghost use Rattle.expand.specs.Chain.{pad, fullSize, extFull};
 use super::copy::put_slice;
@@ -16,7 +16,20 @@ use octets::write::put_be16;
 use octets::write::put_be32;
 use octets::write::put_be64;
 use octets::write::put_byte;
+use sixlowpan::NextHeader;
 use sixlowpan::nhc::UdpNhcRepr;
+
+// What is kept of an IPv6 header while what is behind it is read: what is written of it, which its payload length is
+// left out of; its next header field, and the place behind it. There is one for each IPv6 header on the stack.
+pub struct Kept {
+    pub src: Ipv6Addr,
+    pub dst: Ipv6Addr,
+    pub first: u32,
+    pub number: u8,
+    pub hops: u8,
+    pub next: NextHeader,
+    pub at: usize,
+}
 
 // An absent field is 0.
 fn byte_or(f: ByteField) -> u32
@@ -47,7 +60,7 @@ fn label_or(f: LabelField) -> u32
 }
 
 // Version, traffic class and flow label.
-fn first_word(ip: Repr) -> u32
+pub(crate) fn first_word(ip: Repr) -> u32
     ensures { λ r. ⌜ r ≡ firstWord ip ⌝ }
 {
     let ecn = ip.ecn;
@@ -58,14 +71,14 @@ fn first_word(ip: Repr) -> u32
 }
 
 // What stands before the addresses.
-fn put_front(buf: &mut [u8], at: usize, ip: Repr, next: u8, payload: u16)
+fn put_front(buf: &mut [u8], at: usize, ip: Kept, payload: u16)
     requires { ⌜ at ≤ 65535 ⌝ }
-    ensures { λ _. ⌜ now (buf .exit) ≡ put at (frontWith ip next payload) (now (buf .entry)) ⌝ }
+    ensures { λ _. ⌜ now (buf .exit) ≡ put at (keptFront ip payload) (now (buf .entry)) ⌝ }
 {
-    put_be32(buf, at, first_word(ip));
+    put_be32(buf, at, ip.first);
     put_be16(buf, at + 4, payload);
-    put_byte(buf, at + 6, next);
-    put_byte(buf, at + 7, ip.hop_limit);
+    put_byte(buf, at + 6, ip.number);
+    put_byte(buf, at + 7, ip.hops);
 }
 
 fn put_both(buf: &mut [u8], at: usize, src: Ipv6Addr, dst: Ipv6Addr)
@@ -79,13 +92,13 @@ fn put_both(buf: &mut [u8], at: usize, src: Ipv6Addr, dst: Ipv6Addr)
 }
 
 // An IPv6 header at a place.
-pub(crate) fn put_ipv6(buf: &mut [u8], at: usize, ip: Repr, next: u8, payload: u16)
+pub(crate) fn put_ipv6(buf: &mut [u8], at: usize, ip: Kept, payload: u16)
     requires { ⌜ at ≤ 65000 ⌝ }
-    ensures { λ _. ⌜ now (buf .exit) ≡ put at (ipv6With ip next payload) (now (buf .entry)) ⌝ }
+    ensures { λ _. ⌜ now (buf .exit) ≡ put at (keptFull ip payload) (now (buf .entry)) ⌝ }
 {
-    let src = ip.src_addr;
-    let dst = ip.dst_addr;
-    put_front(buf, at, ip, next, payload);
+    let src = ip.src;
+    let dst = ip.dst;
+    put_front(buf, at, ip, payload);
     put_both(buf, at + 8, src, dst);
 }
 

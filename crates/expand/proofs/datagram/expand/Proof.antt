@@ -7,10 +7,10 @@ use Rattle.expand.proofs.datagram.expand.Statement.{statement}
 use Rattle.expand.proofs.datagram.expand.Tie as tie
 
 returns : tie.Need-returns
-returns c = (rw (expansion-long (now (c .before .before .before .before .args .contexts)) (c .before .before .before .before .args .ll-src) (c .before .before .before .before .args .ll-dst) (c .before .before .before .before .args .size) (now (c .before .before .before .before .args .frame)) (c .before .before .before .before .args .c .at) (c .if1 .taken)) refl, rw (expansion-long (now (c .before .before .before .before .args .contexts)) (c .before .before .before .before .args .ll-src) (c .before .before .before .before .args .ll-dst) (c .before .before .before .before .args .size) (now (c .before .before .before .before .args .frame)) (c .before .before .before .before .args .c .at) (c .if1 .taken)) refl)
+returns c = let a = c .before .before .before .before .args in let e = expansion-long (now (a .contexts)) (a .ll-src) (a .ll-dst) (a .size) (now (a .frame)) (a .c .at) (c .if1 .taken) in (rw e refl, rw e refl)
 
-read-requires : tie.Need-read-requires
-read-requires c κs = search needs
+read-kept-requires : tie.Need-read-kept-requires
+read-kept-requires c κs = search needs
 
 enum-known-ip : tie.Need-enum-known-ip
 enum-known-ip c = search needs
@@ -25,17 +25,23 @@ same-length : tie.Need-same-length
 same-length c = search needs
 
 returns-2 : tie.Need-returns-2
-returns-2 c = (search (on-expansion (λ m. answered m (now (c .before .before .before .before .before .before .before .before .before .before .before .before .args .out)))), search (on-expansion (λ m. written m (now (c .before .before .before .before .before .before .before .before .before .before .before .before .args .out)))))
+returns-2 c = let a = c .before .before .before .before .before .before .before .before .before .before .before .before .args in (
+  on-expansion (now (a .contexts)) (a .ll-src) (a .ll-dst) (a .size) (now (a .frame)) (a .c .at) (λ m. answered m (now (a .out))) _ _ (c .before .before .before .before .before .before .before .before .if1 .left) (c .before .before .before .before .before .before .before .read-kept .ensures) _ (c .before .before .before .before .before .ip .given .1) (λ h n q. c .before .before .expand-headed .ensures h n q .0),
+  on-expansion (now (a .contexts)) (a .ll-src) (a .ll-dst) (a .size) (now (a .frame)) (a .c .at) (λ m. written m (now (a .out))) _ _ (c .before .before .before .before .before .before .before .before .if1 .left) (c .before .before .before .before .before .before .before .read-kept .ensures) _ (c .before .before .before .before .before .ip .given .1) (λ h n q. c .before .before .expand-headed .ensures h n q .1),
+)
 
 returns-3 : tie.Need-returns-3
-returns-3 c = (search (no-expansion (λ m. answered m (now (c .before .before .before .before .before .before .before .before .args .out)))), search (no-expansion (λ m. written m (now (c .before .before .before .before .before .before .before .before .args .out)))))
+returns-3 c = let a = c .before .before .before .before .before .before .before .before .args in (
+  no-expansion (now (a .contexts)) (a .ll-src) (a .ll-dst) (a .size) (now (a .frame)) (a .c .at) (λ m. answered m (now (a .out))) _ _ (c .before .before .before .before .if1 .left) (c .before .before .before .read-kept .ensures) _ (c .before .e .given .1) refl,
+  no-expansion (now (a .contexts)) (a .ll-src) (a .ll-dst) (a .size) (now (a .frame)) (a .c .at) (λ m. written m (now (a .out))) _ _ (c .before .before .before .before .if1 .left) (c .before .before .before .read-kept .ensures) _ (c .before .e .given .1) refl,
+)
 
 pub expand-spec : {M : Type 1} → statement M
 expand-spec =
     tie.close
     (tie.spec
     returns
-    read-requires
+    read-kept-requires
     enum-known-ip
     expand-headed-requires
     enum-known-e

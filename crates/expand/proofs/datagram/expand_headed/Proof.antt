@@ -12,9 +12,6 @@ chain-requires c κs = search needs
 enum-known-len : tie.Need-enum-known-len
 enum-known-len c = search needs
 
-next-number-requires : tie.Need-next-number-requires
-next-number-requires c κs = search needs
-
 total-of-requires : tie.Need-total-of-requires
 total-of-requires c κs = search needs
 
@@ -37,13 +34,16 @@ same-length : tie.Need-same-length
 same-length c = search needs
 
 returns : tie.Need-returns
-returns c = (walk-answered (now (c .before .before .before .before .before .before .before .before .before .before .before .before .before .before .before .before .before .before .before .before .before .before .before .args .contexts)) (c .before .before .before .before .before .before .before .before .before .before .before .before .before .before .before .before .before .before .before .before .before .before .before .args .size) (c .before .before .before .before .before .before .before .before .before .before .before .before .before .before .before .before .before .before .before .before .before .before .before .args .ip) (now (c .before .before .before .before .before .before .before .before .before .before .before .before .before .before .before .before .before .before .before .before .before .before .before .args .frame)) (c .before .before .before .before .before .before .before .before .before .before .before .before .before .before .before .before .before .before .before .before .before .before .before .args .c .at) _ (now (c .before .before .before .before .before .before .before .before .before .before .before .before .before .before .before .before .before .before .before .before .before .before .before .args .out)) _ (c .before .before .before .before .before .before .before .before .before .before .before .before .before .before .before .before .chain .ensures) _ _ (c .before .before .before .before .before .before .before .before .before .before .before .before .len .given .1), walk-written (now (c .before .before .before .before .before .before .before .before .before .before .before .before .before .before .before .before .before .before .before .before .before .before .before .args .contexts)) (c .before .before .before .before .before .before .before .before .before .before .before .before .before .before .before .before .before .before .before .before .before .before .before .args .size) (c .before .before .before .before .before .before .before .before .before .before .before .before .before .before .before .before .before .before .before .before .before .before .before .args .ip) (now (c .before .before .before .before .before .before .before .before .before .before .before .before .before .before .before .before .before .before .before .before .before .before .before .args .frame)) (c .before .before .before .before .before .before .before .before .before .before .before .before .before .before .before .before .before .before .before .before .before .before .before .args .c .at) _ (now (c .before .before .before .before .before .before .before .before .before .before .before .before .before .before .before .before .before .before .before .before .before .before .before .args .out)) _ (c .before .before .before .before .before .before .before .before .before .before .before .before .before .before .before .before .chain .ensures) _ _ (c .before .before .before .before .before .before .before .before .before .before .before .before .len .given .1) _ _ _ _ (c .before .before .before .before .before .before .before .before .before .before .next-number .ensures) (c .before .before .before .before .before .before .before .less .ensures ∙ ap (λ z. z - 40) (c .before .before .before .before .before .before .before .before .total-of .ensures)) (c .before .before .before .before .before .before .put-ipv6 .ensures) (c .before .before .put-elided .ensures))
+returns c = λ h at q. let a = c .before .before .before .before .before .before .before .before .before .before .before .before .before .before .before .before .before .before .before .before .before .before .args in (
+  walk-answered (now (a .contexts)) (a .size) h (now (a .frame)) at (a .ip) q _ (now (a .out)) _ (c .before .before .before .before .before .before .before .before .before .before .before .before .before .before .before .chain .ensures) _ _ (c .before .before .before .before .before .before .before .before .before .before .before .len .given .1),
+  walk-written (now (a .contexts)) (a .size) h (now (a .frame)) at (a .ip) q _ (now (a .out)) _ (c .before .before .before .before .before .before .before .before .before .before .before .before .before .before .before .chain .ensures) _ _ (c .before .before .before .before .before .before .before .before .before .before .before .len .given .1) _ _ _ (c .before .before .before .before .before .before .before .less .ensures ∙ ap (λ z. z - 40) (c .before .before .before .before .before .before .before .before .total-of .ensures)) (c .before .before .before .before .before .before .put-ipv6 .ensures) (c .before .before .put-elided .ensures),
+)
 
 same-length-2 : tie.Need-same-length-2
 same-length-2 c = search needs
 
 returns-2 : tie.Need-returns-2
-returns-2 c = walk-refused (now (c .before .before .before .before .before .before .before .before .before .before .before .before .args .contexts)) (c .before .before .before .before .before .before .before .before .before .before .before .before .args .size) (c .before .before .before .before .before .before .before .before .before .before .before .before .args .ip) (now (c .before .before .before .before .before .before .before .before .before .before .before .before .args .frame)) (c .before .before .before .before .before .before .before .before .before .before .before .before .args .c .at) _ (now (c .before .before .before .before .before .before .before .before .before .before .before .before .args .out)) _ (c .before .before .before .before .before .chain .ensures) _ (c .before .e .given .1)
+returns-2 c = λ h at q. let a = c .before .before .before .before .before .before .before .before .before .before .before .before .args in walk-refused (now (a .contexts)) (a .size) h (now (a .frame)) at (a .ip) q _ (now (a .out)) _ (c .before .before .before .before .before .chain .ensures) _ (c .before .e .given .1)
 
 pub expand-headed-spec : {M : Type 1} → statement M
 expand-headed-spec =
@@ -51,7 +51,6 @@ expand-headed-spec =
     (tie.spec
     chain-requires
     enum-known-len
-    next-number-requires
     total-of-requires
     less-requires
     put-ipv6-requires

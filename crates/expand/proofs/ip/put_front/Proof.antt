@@ -3,9 +3,6 @@ use borrow.Author.Needs.{needs}
 use Rattle.expand.proofs.ip.put_front.Statement.{statement}
 use Rattle.expand.proofs.ip.put_front.Tie as tie
 
-first-word-requires : tie.Need-first-word-requires
-first-word-requires c κs = search needs
-
 put-be32-requires : tie.Need-put-be32-requires
 put-be32-requires c κs = search needs
 
@@ -31,13 +28,12 @@ same-length : tie.Need-same-length
 same-length c = search needs
 
 returns : tie.Need-returns
-returns c = front-put _ _ (c .before .before .before .before .before .before .before .before .before .before .before .before .before .before .before .before .before .before .args .ip) _ _ _ _ _ _ _ (c .before .before .before .before .before .before .before .before .before .before .before .before .before .before .before .first-word .ensures) (c .before .before .before .before .before .before .before .before .before .before .before .before .before .before .put-be32 .ensures) (c .before .before .before .before .before .before .before .before .before .before .put-be16 .ensures) (c .before .before .before .before .before .before .put-byte .ensures) (c .before .before .put-byte2 .ensures)
+returns c = front-put _ (c .before .before .before .before .before .before .before .before .before .before .before .before .before .before .before .before .before .args .ip) _ _ _ _ _ _ (c .before .before .before .before .before .before .before .before .before .before .before .before .before .before .put-be32 .ensures) (c .before .before .before .before .before .before .before .before .before .before .put-be16 .ensures) (c .before .before .before .before .before .before .put-byte .ensures) (c .before .before .put-byte2 .ensures)
 
 pub put-front-spec : {M : Type 1} → statement M
 put-front-spec =
     tie.close
     (tie.spec
-    first-word-requires
     put-be32-requires
     add-put-be16
     put-be16-requires

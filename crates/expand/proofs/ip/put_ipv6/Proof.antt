@@ -16,7 +16,7 @@ same-length : tie.Need-same-length
 same-length c = search needs
 
 returns : tie.Need-returns
-returns c = ipv6-put _ (c .before .before .before .before .before .before .before .before .before .before .before .args .ip) _ _ _ _ _ (c .before .before .before .before .before .before .put-front .ensures) (c .before .before .put-both .ensures)
+returns c = ipv6-put _ (c .before .before .before .before .before .before .before .before .before .before .before .args .ip) _ _ _ _ (c .before .before .before .before .before .before .put-front .ensures) (c .before .before .put-both .ensures)
 
 pub put-ipv6-spec : {M : Type 1} → statement M
 put-ipv6-spec =
