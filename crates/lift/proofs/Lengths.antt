@@ -25,7 +25,7 @@ received-length t at s ctx m o eight d q = subst Sized q (call-sized t m o (gate
 
 -- so does an answer's, as a call says it
 pub answer-half : (tb : Table) (at : ℕ) (s ctx m o : List ℕ) → length (tb .slots) ≡ 8 → (r : Received) (m′ o′ : List ℕ) → Gives r m′ o o′ (step (record { table = tb; mem = m }) (callOf m o (gatesOf tb) ctx at s)) → InHalf (ofOutcome (r .answer))
-answer-half tb at s ctx m o eight r m′ o′ G = rw (G .answer) (in-half _ (call-sized tb m o (gatesOf tb) ctx at s eight))
+answer-half tb at s ctx m o eight r m′ o′ G = rw (G .answer) (in-half (step (record { table = tb; mem = m }) (callOf m o (gatesOf tb) ctx at s) .reply) (call-sized tb m o (gatesOf tb) ctx at s eight))
 
 -- and what it comes to, as numbers
 pub answers-as : (tb : Table) (at : ℕ) (s ctx m o : List ℕ) (r : Received) (m′ o′ : List ℕ) → Gives r m′ o o′ (step (record { table = tb; mem = m }) (callOf m o (gatesOf tb) ctx at s)) → (n : ℕ) → n ≡ packed (ofOutcome (r .answer))
