@@ -83,9 +83,6 @@ told-ge k m x y p h e = rw (← p, le-ltb k _ h) e
 pub told-eq : {r : Bool} {n : ℕ} (a b : ℕ) (t : Bool) → n ≡ a → n ≡ b → r ≡ t → r ≡ (eqb a b && t)
 told-eq a b t p h e = and-eq a b t (sym p ∙ h) e
 
-pub told-ne : {n : ℕ} (a b : ℕ) (t : Bool) → n ≡ a → (n ≡ b → ⊥) → false ≡ (eqb a b && t)
-told-ne a b t p h = and-ne a b t (λ (q : a ≡ b). h (p ∙ q))
-
 pub and-le : {r : Bool} (a b : ℕ) (t : Bool) → a ≤ b → r ≡ t → r ≡ (leb a b && t)
 and-le a b t h e = rw (le-leb a b h) e
 
@@ -95,8 +92,15 @@ and-gt a b t h = rw (lt-leb a b h) refl
 pub and-told : {r u : Bool} (a t : Bool) → u ≡ a → u ≡ true → r ≡ t → r ≡ (a && t)
 and-told a t p h e = rw (← p, h) e
 
-pub and-told-not : {u : Bool} (a t : Bool) → u ≡ a → u ≡ false → false ≡ (a && t)
-and-told-not a t p h = rw (← p, h) refl
+-- the first test that fails is the answer
+pub stops-ne : {n : ℕ} (a b : ℕ) (t : Bool) → n ≡ a → (n ≡ b → ⊥) → eqb n b ≡ (eqb a b && t)
+stops-ne a b t p h = rw (← p, ne-eqb _ b h) refl
+
+pub stops-gt : (a b : ℕ) (t : Bool) → b < a → leb a b ≡ (leb a b && t)
+stops-gt a b t h = rw (lt-leb a b h) refl
+
+pub stops-told : {u : Bool} (a t : Bool) → u ≡ a → u ≡ false → u ≡ (a && t)
+stops-told a t p h = rw (← p, h) refl
 
 pub same-test : {m n : ℕ} (a b : ℕ) → m ≡ a → n ≡ b → eqb m n ≡ eqb a b
 same-test a b p q = rw (p, q) refl
@@ -104,4 +108,4 @@ same-test a b p q = rw (p, q) refl
 pub is-told : (x y : ℕ) → x ≡ y → _≡_ {A = Answer ℕ} (is x) (is y)
 is-told x y p = ap is p
 
-pub ruleset block-steps = (if-told, if-told-not, is-told, part-is, told-lt, told-ge, told-eq, told-ne, and-le, and-gt, and-eq, and-ne, and-told, and-told-not, same-test)
+pub ruleset block-steps = (if-told, if-told-not, is-told, part-is, told-lt, told-ge, told-eq, and-le, and-gt, and-eq, and-ne, and-told, stops-ne, stops-gt, stops-told, same-test)

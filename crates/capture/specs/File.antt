@@ -27,17 +27,17 @@ pub data First : Type 0 where
   refusal : ℕ → First
 
 -- its frames with their times, and the first bad block
-pub record Told : Type 0 where
+pub record FramesTold : Type 0 where
   pub frames : List Timed
   pub first : First
 
 -- the blocks from number b on: the frames of each good one, up to the first bad one. A piece that is no whole block is bad.
-unfoldable pub tell : ℕ → List (List ℕ) → Told
+unfoldable pub tell : ℕ → List (List ℕ) → FramesTold
 tell b [] = record { frames = []; first = none }
 tell b (p ∷ ps) =
     choose (goodBlock b p)
     (record { frames = framesOf p ++ tell (b + 1) ps .frames; first = tell (b + 1) ps .first })
     (record { frames = []; first = badAt b })
 
-unfoldable pub wholeFile : List ℕ → Told
+unfoldable pub wholeFile : List ℕ → FramesTold
 wholeFile s = tell 0 (blocksOf s)

@@ -121,36 +121,21 @@ fn good_head(block: &[u8], number: u64) -> bool
     requires { ⌜ length (now block) ≡ 512 ⌝ }
     ensures { λ r. ⌜ r ≡ goodHead number (now (block .entry)) ⌝ }
 {
-    if wide_at(block, 0) as u64 != number {
-        return false;
-    }
-    if 3 < block[4] {
-        return false;
-    }
-    block[5] == 0
+    wide_at(block, 0) as u64 == number && (block[4] <= 3 && block[5] == 0)
 }
 
 fn good_places(block: &[u8]) -> bool
     requires { ⌜ length (now block) ≡ 512 ⌝ }
     ensures { λ r. ⌜ r ≡ goodPlaces (now (block .entry)) ⌝ }
 {
-    if good_place(block, 0) {
-        if good_place(block, 1) {
-            return good_place(block, 2);
-        }
-        return false;
-    }
-    false
+    good_place(block, 0) && (good_place(block, 1) && good_place(block, 2))
 }
 
 fn good_end(block: &[u8]) -> bool
     requires { ⌜ length (now block) ≡ 512 ⌝ }
     ensures { λ r. ⌜ r ≡ goodEnd (now (block .entry)) ⌝ }
 {
-    if zero_in(block, 402, CHECK) {
-        return word_at(block, CHECK) == fcs(&block[0..CHECK]);
-    }
-    false
+    zero_in(block, 402, CHECK) && word_at(block, CHECK) == fcs(&block[0..CHECK])
 }
 
 fn good_block(block: &[u8], number: u64) -> bool
@@ -159,13 +144,7 @@ fn good_block(block: &[u8], number: u64) -> bool
     if block.len() != BLOCK {
         return false;
     }
-    if good_head(block, number) {
-        if good_places(block) {
-            return good_end(block);
-        }
-        return false;
-    }
-    false
+    good_head(block, number) && (good_places(block) && good_end(block))
 }
 
 // Whether the bytes are the good block of this number, the block's place in its file from 0. Numbers do not wrap: no

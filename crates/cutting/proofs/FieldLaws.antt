@@ -27,7 +27,7 @@ and-gt a b t h = rw (lt-leb a b h) refl
 pub and-eq-told : {r : Bool} {x : ℕ} (a b : ℕ) (t : Bool) → x ≡ a → x ≡ b → r ≡ t → r ≡ (eqb a b && t)
 and-eq-told a b t p h e = rw (← p, eq-eqb _ b h) e
 
-pub and-ne-told : {x : ℕ} (a b : ℕ) (t : Bool) → x ≡ a → (x ≡ b → ⊥) → false ≡ (eqb a b && t)
+pub and-ne-told : {x : ℕ} (a b : ℕ) (t : Bool) → x ≡ a → (x ≡ b → ⊥) → eqb x b ≡ (eqb a b && t)
 and-ne-told a b t p h = rw (← p, ne-eqb _ b h) refl
 
 pub sum-told : (x a n : ℕ) → x ≡ a → eqb (x + 40) n ≡ eqb (a + 40) n
@@ -36,7 +36,7 @@ sum-told x a n p = ap (λ z. eqb (z + 40) n) p
 pub and-told : {r b : Bool} (s t : Bool) → b ≡ s → b ≡ true → r ≡ t → r ≡ (s && t)
 and-told s t p h e = rw (← p, h) e
 
-pub and-told-not : {b : Bool} (s t : Bool) → b ≡ s → b ≡ false → false ≡ (s && t)
+pub and-told-not : {b : Bool} (s t : Bool) → b ≡ s → b ≡ false → b ≡ (s && t)
 and-told-not s t p h = rw (← p, h) refl
 
 pub ruleset field-tests = (and-le, and-gt, and-eq-told, and-ne-told, sum-told)

@@ -22,7 +22,7 @@ use Rattle.ieee802154.specs.declared.addr.AddressField.{AddressField}
 use Rattle.ieee802154.specs.Mac as Mac
 use Rattle.ieee802154.specs.declared.header.Repr as MacHeader
 use Rattle.ieee802154.proofs.WriteSteps as MacSteps
-use Rattle.sixlowpan.specs.NhcUdp.{udpLength, udpBytes, udpForm, portWidth, portsWidth, checksumWidth, bitOf}
+use Rattle.sixlowpan.specs.NhcUdp.{udpLength, udpNhcBytes, udpForm, portWidth, portsWidth, checksumWidth, elidedBit}
 use Rattle.sixlowpan.specs.declared.nhc.UdpNhcRepr.{UdpNhcRepr}
 use Rattle.sixlowpan.specs.declared.protocol.NextHeader.{NextHeader}
 use Rattle.sixlowpan.specs.declared.protocol.NextHeader.the-variants.{Compressed, Uncompressed}
@@ -68,7 +68,7 @@ sum-most false = omega arith
 pub udp-most : (h : UdpNhcRepr) → udpLength h ≤ 7
 udp-most h =
     let p = udpForm h in
-    omega (arith, width-most (eqb p 0b11) (eqb p 0b10) (eqb p 0b01), sum-most (eqb (bitOf (h .checksum)) 0))
+    omega (arith, width-most (eqb p 0b11) (eqb p 0b10) (eqb p 0b01), sum-most (eqb (elidedBit (h .checksum)) 0))
 
 choose-most : (t : Bool) (n : ℕ) → n ≤ 7 → choose t n 0 ≤ 7
 choose-most true n h = h
@@ -88,7 +88,7 @@ length-choose false bs n h = refl
 
 pub length-udp-part : (d : List ℕ) → length (udpPart d) ≡ udpPartLength d
 unfolding udpPart udpPartLength
-length-udp-part d = length-choose (isUdp d) (udpBytes (udpOf d)) (udpLength (udpOf d)) (length-udp (udpOf d))
+length-udp-part d = length-choose (isUdp d) (udpNhcBytes (udpOf d)) (udpLength (udpOf d)) (length-udp (udpOf d))
 
 pub length-head : (l : Link) (d : List ℕ) → length (headBytes l d) ≡ headLength l d
 unfolding headBytes headLength
@@ -104,9 +104,9 @@ module _ (d : List ℕ) (b : Bool) where
   unfolding udpPartLength
   udp-len-none p q = rw (← p, q) (refl, omega arith)
 
-  pub put-udp-there : (h : UdpNhcRepr) (at : ℕ) (l out : List ℕ) → b ≡ isUdp d → b ≡ true → h ≡ udpOf d → out ≡ put at (udpBytes h) l → out ≡ put at (udpPart d) l
+  pub put-udp-there : (h : UdpNhcRepr) (at : ℕ) (l out : List ℕ) → b ≡ isUdp d → b ≡ true → h ≡ udpOf d → out ≡ put at (udpNhcBytes h) l → out ≡ put at (udpPart d) l
   unfolding udpPart
-  put-udp-there h at l out p q e f = rw (← p, q) (f ∙ ap (λ z. put at (udpBytes z) l) e)
+  put-udp-there h at l out p q e f = rw (← p, q) (f ∙ ap (λ z. put at (udpNhcBytes z) l) e)
 
   pub put-udp-none : (at : ℕ) (l : List ℕ) → b ≡ isUdp d → b ≡ false → l ≡ put at (udpPart d) l
   unfolding udpPart

@@ -28,7 +28,7 @@ use Rattle.ieee802154.proofs.WriteSteps as MacSteps
 use Rattle.sixlowpan.specs.Dispatch.{dispatchOf, dispatch}
 use Rattle.sixlowpan.specs.Frag as Frag
 use Rattle.sixlowpan.specs.Nhc.{nhcOf, nhc}
-use Rattle.sixlowpan.specs.NhcUdp.{formOf, bothPort4, port8, portsBytes, checksumBytes, udpForm, udpFirst, udpLength, udpBytes, udp}
+use Rattle.sixlowpan.specs.NhcUdp.{formOf, bothPort4, port8, portsBytes, checksumBytes, udpForm, udpFirst, udpLength, udpNhcBytes, udp}
 use Rattle.sixlowpan.specs.declared.dispatch.SixlowpanPacket.{SixlowpanPacket}
 use Rattle.sixlowpan.specs.declared.dispatch.SixlowpanPacket.the-variants.{FragmentHeader, IphcHeader}
 use Rattle.sixlowpan.specs.declared.frag.Repr.{Repr}
@@ -122,21 +122,21 @@ plain-read p h s m = ap (λ z. is (record { ip = h; udp = UdpField.None; rest = 
 
 -- ---- behind the compressed IPv6 header
 module _ (l : Link) (d : List ℕ) where
-  first-bytes : (r : List ℕ) → udpBytes (udpOf d) ++ r ≡ byteBytes (udpFirst (udpOf d)) ++ ((portsBytes (udpForm (udpOf d)) (udpOf d .«src_port») (udpOf d .«dst_port») ++ checksumBytes (udpOf d .checksum)) ++ r)
+  first-bytes : (r : List ℕ) → udpNhcBytes (udpOf d) ++ r ≡ byteBytes (udpFirst (udpOf d)) ++ ((portsBytes (udpForm (udpOf d)) (udpOf d .«src_port») (udpOf d .«dst_port») ++ checksumBytes (udpOf d .checksum)) ++ r)
   first-bytes r = append-assoc (byteBytes (udpFirst (udpOf d))) (portsBytes (udpForm (udpOf d)) (udpOf d .«src_port») (udpOf d .«dst_port») ++ checksumBytes (udpOf d .checksum)) r
 
   nhc-is : nhcOf (udpFirst (udpOf d)) ≡ is UdpHeader
   unfolding udpOf
   nhc-is = nhc-first (formOf _ _) (form-most _ _)
 
-  nhc-read : (q r : List ℕ) (m : ℕ) → length q ≡ m → nhc (q ++ (udpBytes (udpOf d) ++ r)) m ≡ is UdpHeader
+  nhc-read : (q r : List ℕ) (m : ℕ) → length q ≡ m → nhc (q ++ (udpNhcBytes (udpOf d) ++ r)) m ≡ is UdpHeader
   unfolding nhc
   nhc-read q r m e =
       let t = portsBytes (udpForm (udpOf d)) (udpOf d .«src_port») (udpOf d .«dst_port») ++ checksumBytes (udpOf d .checksum) in
-      let b : byte (q ++ (udpBytes (udpOf d) ++ r)) m ≡ got (udpFirst (udpOf d)) (m + 1) = ap (λ z. byte (q ++ z) m) (first-bytes r) ∙ reads-byte (udpFirst (udpOf d)) q (t ++ r) m e ∙ ap (λ k. got (udpFirst (udpOf d)) (m + k)) (one (udpFirst (udpOf d))) in
+      let b : byte (q ++ (udpNhcBytes (udpOf d) ++ r)) m ≡ got (udpFirst (udpOf d)) (m + 1) = ap (λ z. byte (q ++ z) m) (first-bytes r) ∙ reads-byte (udpFirst (udpOf d)) q (t ++ r) m e ∙ ap (λ k. got (udpFirst (udpOf d)) (m + k)) (one (udpFirst (udpOf d))) in
       rw b nhc-is
 
-  udp-read : (q r : List ℕ) (m : ℕ) → length q ≡ m → byNext Compressed (ipOf l d) (q ++ (udpBytes (udpOf d) ++ r)) m ≡ is (record { ip = ipOf l d; udp = UdpField.Some (udpOf d); rest = m + udpLength (udpOf d) })
+  udp-read : (q r : List ℕ) (m : ℕ) → length q ≡ m → byNext Compressed (ipOf l d) (q ++ (udpNhcBytes (udpOf d) ++ r)) m ≡ is (record { ip = ipOf l d; udp = UdpField.Some (udpOf d); rest = m + udpLength (udpOf d) })
   unfolding byNext transport
   udp-read q r m e = rw (nhc-read q r m e, udp-trip (udpOf d) q r m e, length-udp (udpOf d)) refl
 

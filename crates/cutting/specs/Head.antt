@@ -11,7 +11,7 @@ use Rattle.ieee802154.specs.Mac as Mac
 use Rattle.ieee802154.specs.declared.addr.AddressField.{AddressField}
 use Rattle.ieee802154.specs.declared.addr.PanField.{PanField}
 use Rattle.ieee802154.specs.declared.header.Repr as MacHeader
-use Rattle.sixlowpan.specs.NhcUdp.{udpLength, udpBytes}
+use Rattle.sixlowpan.specs.NhcUdp.{udpLength, udpNhcBytes}
 use Rattle.sixlowpan.specs.declared.nhc.UdpNhcRepr.{UdpNhcRepr}
 use Rattle.sixlowpan.specs.declared.protocol.NextHeader.{NextHeader}
 use Rattle.sixlowpan.specs.declared.protocol.NextHeader.the-variants.{Compressed, Uncompressed}
@@ -69,7 +69,7 @@ unfoldable pub udpOf : List ℕ → UdpNhcRepr
 udpOf d = record { «src_port» = orZero (be16 d 40); «dst_port» = orZero (be16 d 42); checksum = WordField.Some (orZero (be16 d 46)) }
 
 unfoldable pub udpPart : List ℕ → List ℕ
-udpPart d = choose (isUdp d) (udpBytes (udpOf d)) []
+udpPart d = choose (isUdp d) (udpNhcBytes (udpOf d)) []
 
 unfoldable pub udpPartLength : List ℕ → ℕ
 udpPartLength d = choose (isUdp d) (udpLength (udpOf d)) 0

@@ -65,11 +65,7 @@ pub fn is_ours(d: &[u8]) -> bool
 {
     let first = wide_at(d, 0);
     let payload = word_at(d, 4);
-    if first == 0x6000_0000 {
-        (payload as usize) + 40 == d.len()
-    } else {
-        false
-    }
+    first == 0x6000_0000 && (payload as usize) + 40 == d.len()
 }
 
 // Whether its UDP header is compressed.
@@ -81,9 +77,5 @@ pub fn is_udp(d: &[u8]) -> bool
     if d.len() < 48 {
         return false;
     }
-    if next == 17 {
-        (len as usize) + 40 == d.len()
-    } else {
-        false
-    }
+    next == 17 && (len as usize) + 40 == d.len()
 }

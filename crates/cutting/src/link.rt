@@ -41,11 +41,7 @@ pub fn has_both(l: Link) -> bool
 {
     let src = l.src;
     let dst = l.dst;
-    if is_present(src) {
-        is_present(dst)
-    } else {
-        false
-    }
+    is_present(src) && is_present(dst)
 }
 
 pub fn mac_of(l: Link) -> ieee802154::Repr

@@ -11,7 +11,7 @@ use lib.Dec.{ltb}
 use borrow.Author.Tests.{ne-eqb, ltb-true, ltb-false}
 use Rattle.octets.specs.Read.{choose}
 use Rattle.capture.specs.Block.{framesOf, goodBlock, goodHead, goodPlaces, goodEnd}
-use Rattle.capture.specs.File.{First, none, badAt, Told, pieces, blocksOf, tell, joined}
+use Rattle.capture.specs.File.{First, none, badAt, FramesTold, pieces, blocksOf, tell, joined}
 use Rattle.feed.specs.Reading.{Reading, behind, readBlocks, readOn}
 use Rattle.feed.specs.Runs.{framesAll}
 use Rattle.capture.proofs.File.{cut}
@@ -127,7 +127,7 @@ module _ (b : ℕ) (s : List ℕ) where
 abbrev pub firstBy : Reading → First
 firstBy r = choose (r .bad) (badAt (r .due)) none
 
-abbrev pub toldBy : Reading → Told
+abbrev pub toldBy : Reading → FramesTold
 toldBy r = record { frames = framesAll (r .blocks); first = choose (r .bad) (badAt (r .due)) (choose (ltb 0 (length (r .rest))) (badAt (r .due)) none) }
 
 no-block : (b : ℕ) (s : List ℕ) → length s < 512 → goodBlock b s ≡ false
@@ -160,7 +160,7 @@ tell-go (suc n) true b s e g =
     let d : length (drop 512 s) / 512 ≡ n = omega (arith, length-drop 512 s) in
     let ih = tell-go n (goodBlock (b + 1) (take 512 (drop 512 s))) (b + 1) (drop 512 s) d refl in
     ap (tell b) (cut s k)
-    ∙ rw g (ap (λ (q : Told). record { frames = framesOf (take 512 s) ++ q .frames; first = q .first }) ih)
+    ∙ rw g (ap (λ (q : FramesTold). record { frames = framesOf (take 512 s) ++ q .frames; first = q .first }) ih)
     ∙ sym (ap toldBy (read-good b s h g))
 tell-go (suc n) false b s e g =
     let h : 512 ≤ length s = omega arith in

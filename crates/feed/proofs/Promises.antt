@@ -12,7 +12,7 @@ use Rattle.octets.specs.Refusal.{numberOf}
 use Rattle.octets.specs.declared.refusal.Refusal.{Refusal}
 use Rattle.octets.specs.declared.refusal.Refusal.the-variants.{BadBlock}
 use Rattle.capture.specs.Block.{Timed, framesOf}
-use Rattle.capture.specs.File.{First, none, badAt, refusal, Told, pieces, wholeFile, joined}
+use Rattle.capture.specs.File.{First, none, badAt, refusal, FramesTold, pieces, wholeFile, joined}
 use Rattle.feed.specs.Reading.{Reading, behind, readBlocks, readOn}
 use Rattle.feed.specs.Feed.{padded, live, closed, starting, goingOn, stopped, complete, declined, answerOf, taken, afterChunk, finished, afterEnd}
 use Rattle.feed.specs.Runs.{firstIn, framesAll, framesIn, toldIn, firstOf, andTold, feedAll, andEnd, feedFile, Short}
@@ -33,7 +33,7 @@ end-one f y z p q = p ∙ sym q
 abbrev pub readerOf : Reading → Reader
 readerOf r = answerOf r .reader
 
-abbrev pub partBy : Reading → Told
+abbrev pub partBy : Reading → FramesTold
 partBy r = record { frames = framesAll (r .blocks); first = firstBy r }
 
 -- ---- an answer tells what was read
@@ -87,7 +87,7 @@ unfolding answerOf goingOn stopped declined
 reader-go true bs d s c h = ap (λ (a : Fed). a .reader) (chunk-bad d c h)
 reader-go false bs d s c h = ap (λ (a : Fed). a .reader) (chunk-live d s c h) ∙ reader-behind bs (readOn d (s ++ c))
 
-told-declined : (x : Told) (f : Reader) (e : Refusal) → andTold x (toldIn (declined f e)) ≡ record { frames = x .frames; first = firstOf (x .first) (refusal (numberOf e)) }
+told-declined : (x : FramesTold) (f : Reader) (e : Refusal) → andTold x (toldIn (declined f e)) ≡ record { frames = x .frames; first = firstOf (x .first) (refusal (numberOf e)) }
 unfolding declined framesIn framesAll pieces
 told-declined x f e = ap (λ (l : List Timed). record { frames = l; first = firstOf (x .first) (refusal (numberOf e)) }) (append-nil (x .frames))
 
@@ -96,11 +96,11 @@ told-go : (t : Bool) (bs : List (List ℕ)) (d : ℕ) (s c : List ℕ) → lengt
     ≡ partBy (onward (record { blocks = bs; due = d; bad = t; rest = s }) c)
 unfolding answerOf goingOn stopped
 told-go true bs d s c h =
-    let x : Told = record { frames = framesAll bs; first = badAt d } in
+    let x : FramesTold = record { frames = framesAll bs; first = badAt d } in
     ap (λ (a : Fed). andTold x (toldIn a)) (chunk-bad d c h) ∙ told-declined x (closed d Status.Bad) BadBlock
 told-go false bs d s c h =
     let q = readOn d (s ++ c) in
-    let x : Told = record { frames = framesAll bs; first = none } in
+    let x : FramesTold = record { frames = framesAll bs; first = none } in
     ap (λ (a : Fed). andTold x (toldIn a)) (chunk-live d s c h)
     ∙ ap (andTold x) (told-read d (s ++ c))
     ∙ ap (λ (l : List Timed). record { frames = l; first = firstBy q }) (sym (frames-append bs (q .blocks)))
@@ -143,7 +143,7 @@ first-none none = refl
 first-none (badAt b) = refl
 first-none (refusal n) = refl
 
-told-assoc : (x y z : Told) → andTold x (andTold y z) ≡ andTold (andTold x y) z
+told-assoc : (x y z : FramesTold) → andTold x (andTold y z) ≡ andTold (andTold x y) z
 told-assoc x y z =
     ap₂ (λ (l : List Timed) (f : First). record { frames = l; first = f }) (sym (append-assoc (x .frames) (y .frames) (z .frames))) (first-assoc (x .first) (y .first) (z .first))
 
@@ -165,7 +165,7 @@ begun : starting ≡ readerOf (readOn 0 [])
 unfolding answerOf goingOn padded readBlocks
 begun = refl
 
-nothing : (x : Told) → andTold (partBy (readOn 0 [])) x ≡ x
+nothing : (x : FramesTold) → andTold (partBy (readOn 0 [])) x ≡ x
 unfolding readBlocks framesAll
 nothing x = refl
 
@@ -195,5 +195,5 @@ pub last-readers : (cs ds : List (List ℕ)) → Short cs → Short ds → joine
 last-readers cs ds h k e =
     let t = told-so-far cs h ∙ ap (λ s. partBy (readOn 0 s)) e ∙ sym (told-so-far ds k) in
     let f = reader-so-far cs h ∙ ap (λ s. readerOf (readOn 0 s)) e ∙ sym (reader-so-far ds k) in
-    let q : feedAll starting cs ≡ feedAll starting ds = ap₂ (λ (x : Told) (y : Reader). record { told = x; reader = y }) t f in
+    let q : feedAll starting cs ≡ feedAll starting ds = ap₂ (λ (x : FramesTold) (y : Reader). record { told = x; reader = y }) t f in
     (q, ap andEnd q)

@@ -11,7 +11,7 @@ use borrow.Author.Tests.{leb-true, leb-false}
 use Rattle.octets.specs.declared.refusal.Refusal.{Refusal}
 use Rattle.octets.specs.declared.refusal.Refusal.the-variants.{BadLength}
 use Rattle.capture.specs.Block.{Timed}
-use Rattle.capture.specs.File.{Told, joined, wholeFile}
+use Rattle.capture.specs.File.{FramesTold, joined, wholeFile}
 use Rattle.feed.specs.Feed.{starting, declined, afterChunk, afterEnd}
 use Rattle.feed.specs.Runs.{framesIn, feedAll, feedFile, Short, shortOnes, Alike}
 use Rattle.feed.specs.Runs.{Call, piece, finish, answered, Session, callAll}
@@ -96,4 +96,4 @@ module _ (cs : List (List ℕ)) where
   -- the frames and times are those of the file that the chunks of at most 600 bytes make
   pub every-cutting-among : feedFile starting cs .told .frames ≡ wholeFile (joined (shortOnes cs)) .frames
   every-cutting-among =
-      ends-alike .0 ∙ ap (λ (x : Told). x .frames) (every-cutting (shortOnes cs) (short-ones cs))
+      ends-alike .0 ∙ ap (λ (x : FramesTold). x .frames) (every-cutting (shortOnes cs) (short-ones cs))

@@ -9,7 +9,7 @@ use lib.Dec.{leb}
 use Rattle.octets.specs.Read.{choose}
 use Rattle.octets.specs.Refusal.{numberOf}
 use Rattle.capture.specs.Block.{Timed, framesOf}
-use Rattle.capture.specs.File.{First, none, badAt, refusal, Told, pieces}
+use Rattle.capture.specs.File.{First, none, badAt, refusal, FramesTold, pieces}
 use Rattle.feed.specs.Feed.{afterChunk, afterEnd}
 use Rattle.feed.specs.declared.reader.Reader.{Reader}
 use Rattle.feed.specs.declared.reader.Found.{Found}
@@ -36,7 +36,7 @@ framesAll (b ∷ bs) = framesOf b ++ framesAll bs
 unfoldable pub framesIn : Fed → List Timed
 framesIn a = framesAll (pieces (countIn (a .found)) (a .blocks))
 
-abbrev pub toldIn : Fed → Told
+abbrev pub toldIn : Fed → FramesTold
 toldIn a = record { frames = framesIn a; first = firstIn (a .found) }
 
 -- ---- a run
@@ -46,11 +46,11 @@ firstOf none y = y
 firstOf (badAt b) y = badAt b
 firstOf (refusal n) y = refusal n
 
-abbrev pub andTold : Told → Told → Told
+abbrev pub andTold : FramesTold → FramesTold → FramesTold
 andTold x y = record { frames = x .frames ++ y .frames; first = firstOf (x .first) (y .first) }
 
 pub record Run : Type 0 where
-  pub told : Told
+  pub told : FramesTold
   pub reader : Reader
 
 -- chunk after chunk

@@ -93,10 +93,7 @@ impl FrameVersion {
     pub fn may_omit(self, kind: FrameType) -> bool
         ensures { λ r. ⌜ r ≡ mayOmit (self .0) (kind .0) ⌝ }
     {
-        if self.0 == FrameVersion::IEEE802154.0 {
-            return kind.0 < FrameType::RESERVED.0;
-        }
-        false
+        self.0 == FrameVersion::IEEE802154.0 && kind.0 < FrameType::RESERVED.0
     }
 }
 
@@ -110,10 +107,7 @@ fn high_byte(frame: &[u8]) -> u8
 fn says_elements(b: u8) -> bool
     ensures { λ r. ⌜ r ≡ saysElements b ⌝ }
 {
-    if b / HIGH_VERSION % 4 == FrameVersion::IEEE802154.0 {
-        return b / HIGH_ELEMENTS % 2 == 1;
-    }
-    false
+    b / HIGH_VERSION % 4 == FrameVersion::IEEE802154.0 && b / HIGH_ELEMENTS % 2 == 1
 }
 
 // Whether a frame says that it carries information elements.

@@ -147,22 +147,14 @@ pub fn src_form(a: Ipv6Addr, ll: AddressField) -> Form
 fn is_group8(a: Ipv6Addr) -> bool
     ensures { λ r. ⌜ r ≡ isGroup8 a ⌝ }
 {
-    if a.prefix == 0xff02_0000_0000_0000 {
-        a.iid < 0x100
-    } else {
-        false
-    }
+    a.prefix == 0xff02_0000_0000_0000 && a.iid < 0x100
 }
 
 // ffXX:: with an identifier below `below`.
 fn is_scoped(a: Ipv6Addr, below: u64) -> bool
     ensures { λ r. ⌜ r ≡ isScoped a below ⌝ }
 {
-    if a.prefix % 0x1_0000_0000_0000 == 0 {
-        a.iid < below
-    } else {
-        false
-    }
+    a.prefix % 0x1_0000_0000_0000 == 0 && a.iid < below
 }
 
 fn multicast_form(a: Ipv6Addr) -> Form

@@ -113,7 +113,8 @@ impl Repr {
 
     // What follows the first two bytes.
     fn behind(buf: &[u8], c: Cursor, b: Base, ll: LinkAddresses, contexts: &[u8]) -> Parsed
-        ensures { λ r. ⌜ ofParsed r ≡ behind (now (contexts .entry)) (ll .src) (ll .dst) b (now (buf .entry)) (c .at) ⌝ }
+        ensures { λ r. ⌜ ofParsed r
+            ≡ behind (now (contexts .entry)) (ll .src) (ll .dst) b (now (buf .entry)) (c .at) ⌝ }
     {
         match read_front(buf, c, b) {
             FrontRead::Field(f, d) => {

@@ -12,7 +12,7 @@ use Rattle.octets.specs.Read.{choose}
 use Rattle.capture.specs.File.{pieces}
 use Rattle.capture.proofs.File.{cut}
 use Rattle.listen.specs.Lines.{Page, putLine, putLines}
-use Rattle.listen.specs.Heard.{Listener, Told, hearBlock, thenHeard, hearBlocks, hearAll, Hears}
+use Rattle.listen.specs.Heard.{Listener, Listened, hearBlock, thenHeard, hearBlocks, hearAll, Hears}
 use Rattle.listen.specs.declared.ear.Ear.{Ear}
 use Rattle.listen.specs.declared.ear.Heard.{Heard}
 use Rattle.listen.proofs.Hearing.{listener, page}
@@ -62,18 +62,18 @@ unfolding putLines
 put-lines [] vs p = refl
 put-lines (u ∷ us) vs p = put-lines us vs (putLine u p)
 
-then-on : (a b : Told) → a .more ≡ true → thenHeard a b ≡ record { after = b .after; said = a .said ++ b .said; more = b .more }
+then-on : (a b : Listened) → a .more ≡ true → thenHeard a b ≡ record { after = b .after; said = a .said ++ b .said; more = b .more }
 then-on a b e = ap (λ t. choose t (record { after = b .after; said = a .said ++ b .said; more = b .more }) a) e
 
-then-off : (a b : Told) → a .more ≡ false → thenHeard a b ≡ a
+then-off : (a b : Listened) → a .more ≡ false → thenHeard a b ≡ a
 then-off a b e = ap (λ t. choose t (record { after = b .after; said = a .said ++ b .said; more = b .more }) a) e
 
 -- the block that is due, and then what is left behind it
 module _ (s : List ℕ) (l : ℕ) (x : Listener) (h : l ≤ length s) (k : 0 < l) where
-  abbrev due : Told
+  abbrev due : Listened
   due = hearBlock x (take 512 (left s l))
 
-  abbrev behind : Listener → Told
+  abbrev behind : Listener → Listened
   behind y = hearAll y (left s (l - 512))
 
   due-first : hearAll x (left s l) ≡ thenHeard due (behind (due .after))

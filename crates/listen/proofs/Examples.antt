@@ -39,7 +39,7 @@ use Rattle.ieee802154.specs.declared.addr.PanField.{PanField}
 use Rattle.receiver.specs.Receive.{welcome, admitted, brings, frameCall, callOf, tested}
 use Rattle.listen.specs.Lines.{widthIn, decimal, endLine}
 use Rattle.capture.specs.File.{pieces, blocksOf, joined}
-use Rattle.listen.specs.Heard.{listedAs, Listener, Told, received, afterFrame, saidOf, afterFrames, saidOfAll, hearBlock, starting, thenHeard, hearBlocks, hearAll, lastLine, beginning, heard}
+use Rattle.listen.specs.Heard.{listedAs, Listener, Listened, frameResult, afterFrame, saidOf, afterFrames, saidOfAll, hearBlock, starting, thenHeard, hearBlocks, hearAll, lastLine, beginning, heard}
 
 -- ---- the frames: from 0001, and the same from 1234
 abbrev frameFrom : ℕ → ℕ → Timed
@@ -90,8 +90,8 @@ module _ (m : List ℕ) (M : 16384 ≤ length m) where
   nothing-kept a = refl
 
   module _ (n : ℕ) (o : List ℕ) (O : 2047 ≤ length o) (f : List ℕ) (a : Reply (List ℕ)) (C : frameCall gates [] 0 f ≡ other 0 a) where
-    came : received (after n o) (record { time = 0; frame = f }) ≡ passed a
-    unfolding received callOf lentCall gatesOf those present addressed starting fresh seats
+    came : frameResult (after n o) (record { time = 0; frame = f }) ≡ passed a
+    unfolding frameResult callOf lentCall gatesOf those present addressed starting fresh seats
     came = rw (le-ltb (length m) 16384 M, le-ltb (length o) 2047 O, C) (nothing-kept a)
 
   module _ (o : List ℕ) (O : 2047 ≤ length o) where
@@ -102,10 +102,10 @@ module _ (m : List ℕ) (M : 16384 ≤ length m) where
     unfolding o′
     O′ = omega (arith, length-put 0 handed o)
 
-    first : received (after 0 o) (frameFrom 0x01 0x00) ≡ passed (Parts.out handed)
+    first : frameResult (after 0 o) (frameFrom 0x01 0x00) ≡ passed (Parts.out handed)
     first = came 0 o O (frameFrom 0x01 0x00 .frame) (Parts.out handed) brought
 
-    second : received (after 1 o′) (frameFrom 0x34 0x12) ≡ passed (Parts.refused 9)
+    second : frameResult (after 1 o′) (frameFrom 0x34 0x12) ≡ passed (Parts.refused 9)
     second = came 1 o′ O′ (frameFrom 0x34 0x12 .frame) (Parts.refused 9) turned-away
 
     after-first : afterFrame (after 0 o) (frameFrom 0x01 0x00) ≡ after 1 o′
@@ -150,7 +150,7 @@ module _ (m o : List ℕ) (M : 16384 ≤ length m) (O : 2047 ≤ length o) where
   abbrev begun : Listener
   begun = record { ear = starting; mem = m; out = o }
 
-  abbrev told : Told
+  abbrev told : Listened
   told = record { after = record { ear = record { table = starting .table; frames = 2; block = 1 }; mem = m; out = put 0 handed o }; said = lines; more = true }
 
   heard-block : hearBlock begun block ≡ told
@@ -172,4 +172,4 @@ printed =
     let z : ℕ = 0 in
     let M : 16384 ≤ length (zeros 16384) = omega (arith, length-replicate 16384 z) in
     let O : 2047 ≤ length (zeros 2047) = omega (arith, length-replicate 2047 z) in
-    ap (λ (q : Told). joined (q .said) ++ lastLine q) (heard-all (zeros 16384) (zeros 2047) M O)
+    ap (λ (q : Listened). joined (q .said) ++ lastLine q) (heard-all (zeros 16384) (zeros 2047) M O)

@@ -13,18 +13,18 @@ use Rattle.capture.specs.File.{First, none, badAt, refusal, pieces, blocksOf, j
 use Rattle.capture.proofs.Exact.{good-holds}
 use Rattle.capture.proofs.Parts.{bytes-take, bytes-drop}
 use Rattle.listen.specs.Lines.{badLine, endLine}
-use Rattle.listen.specs.Heard.{Listener, Told, next, received, afterFrame, saidOf, afterFrames, saidOfAll, hearBlock, blockOn, hearBlocks, hearAll, starting, beginning, heard}
+use Rattle.listen.specs.Heard.{Listener, Listened, next, frameResult, afterFrame, saidOf, afterFrames, saidOfAll, hearBlock, blockOn, hearBlocks, hearAll, starting, beginning, heard}
 
 -- who listens, where the block number b is due: a frame is received alike at any
 abbrev pub atBlock : ℕ → Listener → Listener
 atBlock b x = record { ear = record { table = x .ear .table; frames = x .ear .frames; block = b }; mem = x .mem; out = x .out }
 
 frame-at : (b : ℕ) (x : Listener) (f : Timed) → afterFrame (atBlock b x) f ≡ atBlock b (afterFrame x f)
-unfolding afterFrame received
+unfolding afterFrame frameResult
 frame-at b x f = refl
 
 said-at : (b : ℕ) (x : Listener) (f : Timed) → saidOf (atBlock b x) f ≡ saidOf x f
-unfolding saidOf received
+unfolding saidOf frameResult
 said-at b x f = refl
 
 frames-at-block : (b : ℕ) (x : Listener) (fs : List Timed) → afterFrames (atBlock b x) fs ≡ atBlock b (afterFrames x fs)
@@ -60,7 +60,7 @@ badSaid (badAt b) = badLine b ∷ []
 badSaid (refusal n) = []
 
 -- the lines and, but for the number of the block that is due, who listens after them
-pub record Tells (x : Listener) (w : File.Told) (q : Told) : Type 0 where
+pub record Tells (x : Listener) (w : File.FramesTold) (q : Listened) : Type 0 where
   pub said : q .said ≡ saidOfAll x (w .frames) ++ badSaid (w .first)
   pub after : atBlock 0 (q .after) ≡ atBlock 0 (afterFrames x (w .frames))
 

@@ -27,7 +27,7 @@ use Rattle.reassembly.specs.declared.table.Listed.{Listed}
 use Rattle.reassembly.specs.declared.table.Table.{Table}
 use Rattle.receiver.specs.Receive.{callOf}
 use Rattle.listen.specs.Lines.{frameLine, badLine, Page, putLine, putLines}
-use Rattle.listen.specs.Heard.{Listener, Told, next, received, afterFrame, saidOf, afterFrames, saidOfAll, blockOn, hearBlock, gateways, starting, Hears}
+use Rattle.listen.specs.Heard.{Listener, Listened, next, frameResult, afterFrame, saidOf, afterFrames, saidOfAll, blockOn, hearBlock, gateways, starting, Hears}
 use Rattle.listen.specs.declared.ear.Ear.{Ear}
 use Rattle.listen.specs.declared.ear.Heard.{Heard}
 
@@ -50,14 +50,14 @@ page-is t was room at n h = page-go (leb (at + length t) (length was)) (put at t
 abbrev listens : Table → ℕ → ℕ → List ℕ → List ℕ → Listener
 listens t n b m o = record { ear = record { table = t; frames = n; block = b }; mem = m; out = o }
 
-module _ (x : Listener) (f : Timed) (r : Received) (m o : List ℕ) (n : ℕ) (G : Gives r m (x .out) o (received x f)) (N : n ≡ next (x .ear .frames)) where
+module _ (x : Listener) (f : Timed) (r : Received) (m o : List ℕ) (n : ℕ) (G : Gives r m (x .out) o (frameResult x f)) (N : n ≡ next (x .ear .frames)) where
   after-is : record { ear = record { table = r .table; frames = n; block = x .ear .block }; mem = m; out = o } ≡ afterFrame x f
   unfolding afterFrame
   after-is =
       ap (λ t. listens t n (x .ear .block) m o) (G .table)
-      ∙ ap (λ k. listens (received x f .state .table) k (x .ear .block) m o) N
-      ∙ ap (λ l. listens (received x f .state .table) (next (x .ear .frames)) (x .ear .block) l o) (G .memory)
-      ∙ ap (λ l. listens (received x f .state .table) (next (x .ear .frames)) (x .ear .block) (received x f .state .mem) l) (G .output)
+      ∙ ap (λ k. listens (frameResult x f .state .table) k (x .ear .block) m o) N
+      ∙ ap (λ l. listens (frameResult x f .state .table) (next (x .ear .frames)) (x .ear .block) l o) (G .memory)
+      ∙ ap (λ l. listens (frameResult x f .state .table) (next (x .ear .frames)) (x .ear .block) (frameResult x f .state .mem) l) (G .output)
 
   said-is : frameLine n (ofOutcome (r .answer)) ≡ saidOf x f
   unfolding saidOf
@@ -81,10 +81,10 @@ module _ (s : List ℕ) (k : ℕ) (x₀ : Listener) (e : Ear) (m o : List ℕ) (
       → Gives r m′ o o′ (step (record { table = e .table; mem = m }) (callOf m o (gatesOf (e .table)) [] t f))
       → n ≡ next (e .frames) → Printed at (frameLine n (ofOutcome (r .answer))) was room to
       → Going s (k + 1) x₀ (listener (record { table = r .table; frames = n; block = e .block }) m′ o′) p₀ (page room to)
-  unfolding received afterFrames saidOfAll putLines
+  unfolding frameResult afterFrames saidOfAll putLines
   turn g h T F G N P =
       let x : Listener = listener e m o in
-      let G′ : Gives r m′ o o′ (received x (timedOf k s)) = rw (T, F) at G in
+      let G′ : Gives r m′ o o′ (frameResult x (timedOf k s)) = rw (T, F) at G in
       let a = after-is x (timedOf k s) r m′ o′ n G′ N in
       let q : page room to ≡ putLine (saidOf x (timedOf k s)) (page was at) = page-is (frameLine n (ofOutcome (r .answer))) was room at to P ∙ ap (λ l. putLine l (page was at)) (said-is x (timedOf k s) r m′ o′ n G′ N) in
       record {

@@ -17,7 +17,7 @@ use Rattle.io.specs.Digits.{digits}
 use Rattle.text.specs.Text.{Printed, Decimal}
 use Rattle.listen.specs.Lines.{Page, putLine, putLines}
 use Rattle.capture.specs.File.{pieces, blocksOf, joined}
-use Rattle.listen.specs.Heard.{Listener, Told, hearBlock, thenHeard, hearBlocks, hearAll, lastLine, beginning, heard, Hears}
+use Rattle.listen.specs.Heard.{Listener, Listened, hearBlock, thenHeard, hearBlocks, hearAll, lastLine, beginning, heard, Hears}
 use Rattle.listen.specs.declared.ear.Ear.{Ear}
 use Rattle.listen.specs.declared.ear.Heard.{Heard}
 use Rattle.listen.proofs.Hearing.{page}
@@ -25,7 +25,7 @@ use Rattle.capture.proofs.File.{cut}
 use Rattle.listen.proofs.Decimals.{fewest-one}
 
 -- ---- any two answers are equal, and so are the lent bytes after them
-pub hears-one : (q : Told) (was : List ℕ) (at : ℕ) (y z : Heard) (m m′ o o′ x x′ : List ℕ) → Hears y m o was x at q → Hears z m′ o′ was x′ at q → (y ≡ z) × (m ≡ m′) × (o ≡ o′) × (x ≡ x′)
+pub hears-one : (q : Listened) (was : List ℕ) (at : ℕ) (y z : Heard) (m m′ o o′ x x′ : List ℕ) → Hears y m o was x at q → Hears z m′ o′ was x′ at q → (y ≡ z) × (m ≡ m′) × (o ≡ o′) × (x ≡ x′)
 hears-one q was at y z m m′ o o′ x x′ A B =
     let t = A .text ∙ sym (B .text) in
     let e : y .ear ≡ z .ear = A .ear ∙ sym (B .ear) in
@@ -89,10 +89,10 @@ assoc-go true true x y z p q r w = ap (λ l. record { after = z; said = l; more 
 assoc-go true false x y z p q r w = refl
 assoc-go false u x y z p q r w = refl
 
-then-assoc : (a b c : Told) → thenHeard a (thenHeard b c) ≡ thenHeard (thenHeard a b) c
+then-assoc : (a b c : Listened) → thenHeard a (thenHeard b c) ≡ thenHeard (thenHeard a b) c
 then-assoc a b c = assoc-go (a .more) (b .more) (a .after) (b .after) (c .after) (a .said) (b .said) (c .said) (c .more)
 
-after-go : (t : Bool) (x y : Listener) (p q : List (List ℕ)) (u : Bool) (f : Listener → Told)
+after-go : (t : Bool) (x y : Listener) (p q : List (List ℕ)) (u : Bool) (f : Listener → Listened)
     → thenHeard (thenHeard (record { after = x; said = p; more = t }) (record { after = y; said = q; more = u })) (f y)
     ≡ thenHeard (thenHeard (record { after = x; said = p; more = t }) (record { after = y; said = q; more = u })) (f (thenHeard (record { after = x; said = p; more = t }) (record { after = y; said = q; more = u }) .after))
 after-go true x y p q u f = refl

@@ -12,7 +12,7 @@ use Rattle.capture.proofs.Exact.{frames-length}
 use Rattle.reassembly.specs.Parts.{Reply, kept, out, refused, told}
 use Rattle.listen.specs.Lines.{decimal, outWord, keptWord, noWord, newline, frameLine, badLine}
 use Rattle.capture.specs.File.{pieces, blocksOf, joined}
-use Rattle.listen.specs.Heard.{Listener, Told, next, received, afterFrame, saidOf, saidOfAll, hearBlock, thenHeard, hearBlocks, hearAll}
+use Rattle.listen.specs.Heard.{Listener, Listened, next, frameResult, afterFrame, saidOf, saidOfAll, hearBlock, thenHeard, hearBlocks, hearAll}
 use Rattle.listen.proofs.Decimals.{decimal-small}
 
 -- ---- a line takes 46 bytes at most, the lines of a block 138
@@ -31,9 +31,9 @@ said-small : (x : Listener) (fs : List Timed) → length (joined (saidOfAll x fs
 unfolding joined saidOfAll saidOf
 said-small x [] = omega arith
 said-small x (f ∷ fs) =
-    omega (arith, length-append (saidOf x f) (joined (saidOfAll (afterFrame x f) fs)), frame-small (next (x .ear .frames)) (told (received x f .reply)), said-small (afterFrame x f) fs)
+    omega (arith, length-append (saidOf x f) (joined (saidOfAll (afterFrame x f) fs)), frame-small (next (x .ear .frames)) (told (frameResult x f .reply)), said-small (afterFrame x f) fs)
 
-block-go : (t : Bool) (x : Listener) (s : List ℕ) (a b : Listener) (u v : Bool) → length (joined (choose {A = Told} t (record { after = a; said = saidOfAll x (framesOf s); more = u }) (record { after = b; said = badLine (x .ear .block) ∷ []; more = v }) .said)) ≤ 138
+block-go : (t : Bool) (x : Listener) (s : List ℕ) (a b : Listener) (u v : Bool) → length (joined (choose {A = Listened} t (record { after = a; said = saidOfAll x (framesOf s); more = u }) (record { after = b; said = badLine (x .ear .block) ∷ []; more = v }) .said)) ≤ 138
 unfolding joined
 block-go true x s a b u v = omega (arith, said-small x (framesOf s), frames-length s, count-small s)
 block-go false x s a b u v = omega (arith, bad-small (x .ear .block), length-append (badLine (x .ear .block)) [])

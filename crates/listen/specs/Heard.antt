@@ -32,20 +32,20 @@ next n = (n + 1) % 2 ^ 64
 
 -- ---- a frame
 -- what the receiver makes of it: there are no contexts
-unfoldable pub received : Listener → Timed → Result
-received x f =
+unfoldable pub frameResult : Listener → Timed → Result
+frameResult x f =
     step (record { table = x .ear .table; mem = x .mem }) (callOf (x .mem) (x .out) (gatesOf (x .ear .table)) [] (f .time) (f .frame))
 
 unfoldable pub afterFrame : Listener → Timed → Listener
 afterFrame x f = record {
-  ear = record { table = received x f .state .table; frames = next (x .ear .frames); block = x .ear .block };
-  mem = received x f .state .mem;
-  out = outputAfter (received x f .reply) (x .out);
+  ear = record { table = frameResult x f .state .table; frames = next (x .ear .frames); block = x .ear .block };
+  mem = frameResult x f .state .mem;
+  out = outputAfter (frameResult x f .reply) (x .out);
 }
 
 -- the frames are numbered from 1 over the whole capture
 unfoldable pub saidOf : Listener → Timed → List ℕ
-saidOf x f = frameLine (next (x .ear .frames)) (told (received x f .reply))
+saidOf x f = frameLine (next (x .ear .frames)) (told (frameResult x f .reply))
 
 -- ---- frames, one after the other
 unfoldable pub afterFrames : Listener → List Timed → Listener
@@ -58,20 +58,20 @@ saidOfAll x (f ∷ fs) = saidOf x f ∷ saidOfAll (afterFrame x f) fs
 
 -- ---- a block
 -- who listens after it, its lines, and whether reading goes on
-pub record Told : Type 0 where
+pub record Listened : Type 0 where
   pub after : Listener
   pub said : List (List ℕ)
   pub more : Bool
 
 -- the frames of a block, without the count of blocks
-abbrev pub hearFrames : Listener → List ℕ → Told
+abbrev pub hearFrames : Listener → List ℕ → Listened
 hearFrames x s = record { after = afterFrames x (framesOf s); said = saidOfAll x (framesOf s); more = true }
 
 abbrev pub blockOn : Listener → Listener
 blockOn x = record { ear = record { table = x .ear .table; frames = x .ear .frames; block = next (x .ear .block) }; mem = x .mem; out = x .out }
 
 -- a good block of the number that is due; at any other nothing is received
-unfoldable pub hearBlock : Listener → List ℕ → Told
+unfoldable pub hearBlock : Listener → List ℕ → Listened
 hearBlock x s =
     choose (goodBlock (x .ear .block) s)
     (record { after = blockOn (afterFrames x (framesOf s)); said = saidOfAll x (framesOf s); more = true })
@@ -90,18 +90,18 @@ unfoldable pub starting : Ear
 starting = record { table = fresh (gateOf (listedAs 1) ∷ gateOf (listedAs 2) ∷ gateOf (listedAs 3) ∷ gateOf (listedAs 4) ∷ []); frames = 0; block = 0 }
 
 -- what follows is heard where reading goes on
-abbrev pub thenHeard : Told → Told → Told
+abbrev pub thenHeard : Listened → Listened → Listened
 thenHeard a b = choose (a .more) (record { after = b .after; said = a .said ++ b .said; more = b .more }) a
 
 -- block after block, up to the first bad one
-unfoldable pub hearBlocks : Listener → List (List ℕ) → Told
+unfoldable pub hearBlocks : Listener → List (List ℕ) → Listened
 hearBlocks x [] = record { after = x; said = []; more = true }
 hearBlocks x (s ∷ ss) = thenHeard (hearBlock x s) (hearBlocks (hearBlock x s .after) ss)
 
-abbrev pub hearAll : Listener → List ℕ → Told
+abbrev pub hearAll : Listener → List ℕ → Listened
 hearAll x s = hearBlocks x (blocksOf s)
 
-abbrev pub lastLine : Told → List ℕ
+abbrev pub lastLine : Listened → List ℕ
 lastLine q = endLine (q .after .ear .frames)
 
 -- the memory and the output are zeros at first
@@ -114,7 +114,7 @@ heard s = joined (hearAll beginning s .said) ++ lastLine (hearAll beginning s)
 
 -- ---- what the contract says
 -- the answer r, the lent memory m, the output o and the text x, x₀ before from the place at, are as q says
-pub record Hears (r : Heard) (m o x₀ x : List ℕ) (at : ℕ) (q : Told) : Type 0 where
+pub record Hears (r : Heard) (m o x₀ x : List ℕ) (at : ℕ) (q : Listened) : Type 0 where
   pub ear : r .ear ≡ q .after .ear
   pub memory : m ≡ q .after .mem
   pub output : o ≡ q .after .out

@@ -1,14 +1,13 @@
 -- What the functions of coming need: frames counted one after the other, and the length of their blocks.
 use Prim.Native.Nat.{ℕ, zero, suc, _+_, _*_, _-_, _/_, _≤_, _<_}
-use native.Mathlib.Nat.{add-zero, zero-add}
+use native.Mathlib.Nat.{add-zero}
 use native.Mathlib.Omega.{arith}
-use mathlib.Core.Path.{_≡_, refl, sym, ap, ap₂, _∙_}
-use mathlib.Core.List.{List, [], _∷_, _++_}
-use mathlib.Core.Bool.{Bool, true, false}
+use mathlib.Core.Path.{_≡_, refl, sym, ap, _∙_}
+use mathlib.Core.List.{List, [], _∷_}
 use lib.Dec.{leb, ltb}
 use lib.ListN.{length, take, drop, length-append}
 use borrow.Author.Tests.{le-leb, lt-leb, lt-ltb, le-ltb}
-use Rattle.octets.specs.Read.{Answer, is, refused, Read, got, andThen, choose}
+use Rattle.octets.specs.Read.{is, refused, Read, got, andThen, choose}
 use Rattle.octets.specs.Refusal.{numberOf}
 use Rattle.octets.specs.Write.{ofWritten}
 use Rattle.octets.specs.Answers.{ofSkip}
@@ -19,12 +18,11 @@ use Rattle.octets.specs.declared.write.Written.{Written}
 use Rattle.octets.proofs.Spans.{not-refused}
 use Rattle.capture.specs.Block.{Timed}
 use Rattle.capture.specs.Made.{blockOf, Bytes}
-use Rattle.pcap.specs.Frames.{blocksFrom, blocksOf, frameField, framesField, mostFrames, head, valueOnly, framesOfPcap}
-use Rattle.pcap.specs.Moves.{fromPcap, lengthed, counted, Holdable}
+use Rattle.pcap.specs.Frames.{blocksFrom, frameField, framesField, mostFrames, head, framesOfPcap}
+use Rattle.pcap.specs.Moves.{fromPcap, lengthed, counted}
 use Rattle.pcap.specs.Answers.{ofFrame}
 use Rattle.pcap.specs.declared.read.FrameRead.{FrameRead}
-use Rattle.pcap.proofs.There.{frame-length}
-use Rattle.pcap.proofs.Back.{frame-back, frames-back, pcap-holds}
+use Rattle.pcap.proofs.Back.{frame-back}
 use Rattle.pcap.proofs.Blocks.{Each, block-length, tail-each, first-each}
 
 -- ---- one frame more
@@ -99,18 +97,6 @@ blocks-length (x ∷ y ∷ z ∷ fs) b v =
 
 -- ---- the whole
 module _ (s : List ℕ) (b : Bytes s) where
-  made-go : (at k : ℕ) (r : Read (List Timed)) → framesField (length s) 0 s at ≡ r → head s 0 ≡ got tt at → is k ≡ andThen r (λ p. is (0 + length (p .value))) → (is (512 * ((k + 2) / 3)) ≡ lengthed (fromPcap s)) × (k ≤ mostFrames)
-  unfolding fromPcap framesOfPcap
-  made-go at k (is p) q e c =
-      let x : k ≡ 0 + length (p .value) = cc in
-      let f : framesOfPcap s ≡ is (p .value) = rw (e, q) refl in
-      let v = pcap-holds s (p .value) b f in
-      let l = blocks-length (p .value) 0 (v .each) in
-      let m = v .few in
-      let z : 512 * ((k + 2) / 3) ≡ length (blocksOf (p .value)) = omega arith in
-      (rw (e, q) (ap is z), omega arith)
-  made-go at k (refused n) q e c = not-refused _ n (sym c)
-
   none-go : (at n : ℕ) (r : Read (List Timed)) → framesField (length s) 0 s at ≡ r → head s 0 ≡ got tt at → refused n ≡ andThen r (λ p. is (0 + length (p .value))) → refused n ≡ lengthed (fromPcap s)
   unfolding fromPcap framesOfPcap
   none-go at n (is p) q e c = not-refused _ n c
@@ -128,9 +114,6 @@ module _ (s : List ℕ) (b : Bytes s) where
 
       start : head s 0 ≡ got tt (c .at)
       start = sym p ∙ ap ofSkip q
-
-      pub count-made : (k : ℕ) → r ≡ Written.Bytes k → (is (512 * ((k + 2) / 3)) ≡ lengthed (fromPcap s)) × (k ≤ mostFrames)
-      count-made k u = made-go (c .at) k (framesField (length s) 0 s (c .at)) refl start (sym (ap ofWritten u) ∙ g ∙ all-left)
 
       pub count-none : (e : Refusal) → r ≡ Written.Refused e → refused (numberOf e) ≡ lengthed (fromPcap s)
       count-none e u = none-go (c .at) (numberOf e) (framesField (length s) 0 s (c .at)) refl start (sym (ap ofWritten u) ∙ g ∙ all-left)

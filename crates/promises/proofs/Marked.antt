@@ -17,7 +17,7 @@ use Rattle.ieee802154.specs.declared.header.Repr as MacRepr
 use Rattle.ieee802154.proofs.Examples.{k11}
 use Rattle.iphc.specs.Iphc.{iphc}
 use Rattle.sixlowpan.specs.Frag
-use Rattle.sixlowpan.specs.NhcUdp.{udpBytes}
+use Rattle.sixlowpan.specs.NhcUdp.{udpNhcBytes}
 use Rattle.sixlowpan.specs.NhcExt.{ext, extBytes}
 use Rattle.sixlowpan.specs.declared.protocol.NextHeader.the-variants.{Uncompressed}
 use Rattle.sixlowpan.specs.declared.frag.Repr.the-variants.{FirstFragment, Fragment}
@@ -116,9 +116,9 @@ pub record Marked : Type 0 where
   pub k5 : reads source (0x7b ∷ 0x73 ∷ 0x3a ∷ []) ≡ refused 5
   pub k5-none : reads AddressField.None (0x7b ∷ 0x73 ∷ 0x3a ∷ []) ≡ refused 6
   pub k5-absent : reads (AddressField.Some Absent) (0x7b ∷ 0x73 ∷ 0x3a ∷ []) ≡ refused 6
-  pub k6 : udpBytes (udp 0xf0b1 0xf0b2 (WordField.Some 0x1234)) ≡ 0xf3 ∷ 0x12 ∷ 0x12 ∷ 0x34 ∷ []
-  pub k7 : udpBytes (udp 0xf0b1 0xf0c0 (WordField.Some 0x1234)) ≡ 0xf2 ∷ 0xb1 ∷ 0xf0 ∷ 0xc0 ∷ 0x12 ∷ 0x34 ∷ []
-  pub k8 : udpBytes (udp 0x0050 0xf000 WordField.None) ≡ 0xf5 ∷ 0x00 ∷ 0x50 ∷ 0x00 ∷ []
+  pub k6 : udpNhcBytes (udp 0xf0b1 0xf0b2 (WordField.Some 0x1234)) ≡ 0xf3 ∷ 0x12 ∷ 0x12 ∷ 0x34 ∷ []
+  pub k7 : udpNhcBytes (udp 0xf0b1 0xf0c0 (WordField.Some 0x1234)) ≡ 0xf2 ∷ 0xb1 ∷ 0xf0 ∷ 0xc0 ∷ 0x12 ∷ 0x34 ∷ []
+  pub k8 : udpNhcBytes (udp 0x0050 0xf000 WordField.None) ≡ 0xf5 ∷ 0x00 ∷ 0x50 ∷ 0x00 ∷ []
   pub k9 : Frag.bytesOf (FirstFragment 1280 7) ≡ 0xc5 ∷ 0x00 ∷ 0x00 ∷ 0x07 ∷ []
   pub k9-next : Frag.bytesOf (Fragment 1280 7 (record { 0 = 12 })) ≡ 0xe5 ∷ 0x00 ∷ 0x00 ∷ 0x07 ∷ 0x0c ∷ []
   pub k10 : ext (0xec ∷ 0x3a ∷ 0x04 ∷ []) 0 ≡ got reserved 3

@@ -67,10 +67,7 @@ fn broadcast_at(frame: &[u8], c: Cursor) -> bool
 fn either_at(frame: &[u8], c: Cursor) -> bool
     ensures { λ r. ⌜ r ≡ isEither (getD (now (frame .entry)) (c .at) 0) ⌝ }
 {
-    if mesh_at(frame, c) {
-        return true;
-    }
-    broadcast_at(frame, c)
+    mesh_at(frame, c) || broadcast_at(frame, c)
 }
 
 fn read_mesh(frame: &[u8], c: Cursor) -> MeshFieldRead
@@ -112,10 +109,7 @@ fn has_both(m: Mesh) -> bool
 {
     let origin = m.origin;
     let destination = m.destination;
-    if is_present(origin) {
-        return is_present(destination);
-    }
-    false
+    is_present(origin) && is_present(destination)
 }
 
 // Whether no address is absent.

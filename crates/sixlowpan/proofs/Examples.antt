@@ -9,7 +9,7 @@ use Rattle.sixlowpan.specs.Frag.{bytesOf}
 use Rattle.sixlowpan.specs.declared.frag.Repr.the-variants.{FirstFragment, Fragment}
 use Rattle.sixlowpan.specs.NhcExt.{idOf, extRest, ext, extBytes}
 use Rattle.sixlowpan.specs.Next.{nextHeader}
-use Rattle.sixlowpan.specs.NhcUdp.{port, bothPorts, ports, checksum, udpRest, udp, formOf, portBytes, portsBytes, udpBytes}
+use Rattle.sixlowpan.specs.NhcUdp.{port, bothPorts, ports, checksum, udpRest, udp, formOf, portBytes, portsBytes, udpNhcBytes}
 use Rattle.sixlowpan.specs.declared.protocol.NextHeader.the-variants.{Uncompressed}
 use Rattle.sixlowpan.specs.declared.nhc.ExtHeaderId.the-variants.{Reserved}
 use Rattle.sixlowpan.specs.declared.nhc.ExtHeaderRepr.{ExtHeaderRepr}
@@ -23,7 +23,7 @@ reserved = record { «ext_header_id» = Reserved; «next_header» = Uncompressed
 
 -- h is written as bs, and bs is read as h and passed over
 abbrev Is : UdpNhcRepr → List ℕ → ℕ → Type 0
-Is h bs n = (udpBytes h ≡ bs) × (udp bs 0 ≡ got h n)
+Is h bs n = (udpNhcBytes h ≡ bs) × (udp bs 0 ≡ got h n)
 
 pub k6-k7-k8-k10 : Is (header 0xf0b1 0xf0b2 (WordField.Some 0x1234)) (0xf3 ∷ 0x12 ∷ 0x12 ∷ 0x34 ∷ []) 4
     × Is (header 0xf0b1 0xf0c0 (WordField.Some 0x1234)) (0xf2 ∷ 0xb1 ∷ 0xf0 ∷ 0xc0 ∷ 0x12 ∷ 0x34 ∷ []) 6

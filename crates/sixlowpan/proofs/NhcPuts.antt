@@ -12,7 +12,7 @@ use Rattle.octets.specs.declared.field.WordField.{WordField}
 use Rattle.octets.proofs.Puts.{more, put-eq, put-ne}
 use Rattle.sixlowpan.specs.Next.{nextBytes}
 use Rattle.sixlowpan.specs.NhcExt.{extLength, extBytes}
-use Rattle.sixlowpan.specs.NhcUdp.{bitOf, portWidth, portsWidth, checksumWidth, portBytes, portsBytes, checksumBytes, udpForm, udpLength, udpBytes}
+use Rattle.sixlowpan.specs.NhcUdp.{elidedBit, portWidth, portsWidth, checksumWidth, portBytes, portsBytes, checksumBytes, udpForm, udpLength, udpNhcBytes}
 use Rattle.sixlowpan.specs.declared.nhc.ExtHeaderRepr.{ExtHeaderRepr}
 use Rattle.sixlowpan.specs.declared.nhc.UdpNhcRepr.{UdpNhcRepr}
 use Rattle.sixlowpan.proofs.NextLaws.{length-next, more-next}
@@ -35,12 +35,12 @@ length-ports p src dst = by (eqb p 0b11)
     by true = refl
     by false = rw (length-append (portBytes (eqb p 0b10) src) _, length-port (eqb p 0b10) src, length-port (eqb p 0b01) dst) refl
 
-length-checksum : (x : WordField) → length (checksumBytes x) ≡ checksumWidth (bitOf x)
+length-checksum : (x : WordField) → length (checksumBytes x) ≡ checksumWidth (elidedBit x)
 unfolding be16Bytes
 length-checksum (WordField.Some x) = refl
 length-checksum WordField.None = refl
 
-pub length-udp : (h : UdpNhcRepr) → length (udpBytes h) ≡ udpLength h
+pub length-udp : (h : UdpNhcRepr) → length (udpNhcBytes h) ≡ udpLength h
 unfolding byteBytes
 length-udp h = rw (length-append (portsBytes (udpForm h) (h .«src_port») (h .«dst_port»)) (checksumBytes (h .checksum)), length-ports (udpForm h) (h .«src_port») (h .«dst_port»), length-checksum (h .checksum)) (omega arith)
 

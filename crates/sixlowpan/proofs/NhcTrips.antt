@@ -15,7 +15,7 @@ use Rattle.octets.proofs.RoundTrip.{Reads, reads-first, reads-both, reads-map, 
 use Rattle.octets.proofs.Steps.{and-true}
 use Rattle.sixlowpan.specs.Next.{nextHeader, nextBit, nextBytes}
 use Rattle.sixlowpan.specs.NhcExt.{idOf, eidOf, extRest, ext, extLength, extBytes}
-use Rattle.sixlowpan.specs.NhcUdp.{port, bothPorts, ports, checksum, udpRest, udp, port8, port4, bothPort4, formOf, bitOf, portBytes, portsBytes, checksumBytes, udpForm, udpFirst, udpLength, udpBytes}
+use Rattle.sixlowpan.specs.NhcUdp.{port, bothPorts, ports, checksum, udpRest, udp, port8, port4, bothPort4, formOf, elidedBit, portBytes, portsBytes, checksumBytes, udpForm, udpFirst, udpLength, udpNhcBytes}
 use Rattle.sixlowpan.specs.declared.protocol.NextHeader.{NextHeader}
 use Rattle.sixlowpan.specs.declared.nhc.ExtHeaderId.{ExtHeaderId}
 use Rattle.sixlowpan.specs.declared.nhc.ExtHeaderId.the-variants.{HopByHopHeader, RoutingHeader, FragmentHeader, DestinationOptionsHeader, MobilityHeader, Header, Reserved}
@@ -106,16 +106,16 @@ form-small src dst = by (bothPort4 src dst) (port8 src) (port8 dst)
     by false false true = omega arith
     by false false false = omega arith
 
-checksum-trip : (x : WordField) → Reads (checksum (bitOf x)) (checksumBytes x) x
+checksum-trip : (x : WordField) → Reads (checksum (elidedBit x)) (checksumBytes x) x
 unfolding checksum
 checksum-trip (WordField.Some x) = reads-map be16 WordField.Some (be16Bytes x) x (reads-be16 x)
 checksum-trip WordField.None = reads-give WordField.None
 
-bit-small : (x : WordField) → bitOf x < 2
+bit-small : (x : WordField) → elidedBit x < 2
 bit-small (WordField.Some x) = omega arith
 bit-small WordField.None = omega arith
 
-pub udp-trip : (h : UdpNhcRepr) → Reads udp (udpBytes h) h
+pub udp-trip : (h : UdpNhcRepr) → Reads udp (udpNhcBytes h) h
 unfolding udp udpRest
 udp-trip h =
     let b : ℕ = udpFirst h in
@@ -123,11 +123,11 @@ udp-trip h =
     let j = bit-small (h .checksum) in
     let d : b / 8 ≡ 0b11110 = omega arith in
     let f : b % 4 ≡ udpForm h = omega arith in
-    let q : b / 4 ≡ 0b111100 + bitOf (h .checksum) = omega arith in
-    let g : b / 4 % 2 ≡ bitOf (h .checksum) = rw q (omega arith) in
+    let q : b / 4 ≡ 0b111100 + elidedBit (h .checksum) = omega arith in
+    let g : b / 4 % 2 ≡ elidedBit (h .checksum) = rw q (omega arith) in
     reads-first b 0b11110 2 udpRest (λ a. a / 8) _ h d
     (rw (f, g)
-    (reads-both (ports (udpForm h)) (checksum (bitOf (h .checksum))) (λ x y. record { «src_port» = x .src; «dst_port» = x .dst; checksum = y }) (portsBytes (udpForm h) (h .«src_port») (h .«dst_port»)) (checksumBytes (h .checksum)) (pair (h .«src_port») (h .«dst_port»)) (h .checksum) (ports-trip (h .«src_port») (h .«dst_port»)) (checksum-trip (h .checksum))))
+    (reads-both (ports (udpForm h)) (checksum (elidedBit (h .checksum))) (λ x y. record { «src_port» = x .src; «dst_port» = x .dst; checksum = y }) (portsBytes (udpForm h) (h .«src_port») (h .«dst_port»)) (checksumBytes (h .checksum)) (pair (h .«src_port») (h .«dst_port»)) (h .checksum) (ports-trip (h .«src_port») (h .«dst_port»)) (checksum-trip (h .checksum))))
 
-pub udp-emit-parse : (h : UdpNhcRepr) (room : List ℕ) → udpLength h ≤ length room → udp (over (udpLength h) (udpBytes h) room) 0 ≡ got h (udpLength h)
-udp-emit-parse h room e = emit-then-read udp (udpBytes h) h (udpLength h) room (udp-trip h) (length-udp h) e
+pub udp-emit-parse : (h : UdpNhcRepr) (room : List ℕ) → udpLength h ≤ length room → udp (over (udpLength h) (udpNhcBytes h) room) 0 ≡ got h (udpLength h)
+udp-emit-parse h room e = emit-then-read udp (udpNhcBytes h) h (udpLength h) room (udp-trip h) (length-udp h) e

@@ -91,9 +91,10 @@ bothPort4 src dst = port4 src && port4 dst
 unfoldable pub formOf : ℕ → ℕ → ℕ
 formOf src dst = choose (bothPort4 src dst) 0b11 (choose (port8 src) 0b10 (choose (port8 dst) 0b01 0b00))
 
-abbrev pub bitOf : WordField → ℕ
-bitOf (WordField.Some x) = 0
-bitOf WordField.None = 1
+-- C: whether the checksum is elided
+abbrev pub elidedBit : WordField → ℕ
+elidedBit (WordField.Some x) = 0
+elidedBit WordField.None = 1
 
 -- ---- how many bytes carry a port, the ports and the checksum
 abbrev pub portWidth : Bool → ℕ
@@ -125,10 +126,10 @@ abbrev pub udpForm : UdpNhcRepr → ℕ
 udpForm h = formOf (h .«src_port») (h .«dst_port»)
 
 abbrev pub udpFirst : UdpNhcRepr → ℕ
-udpFirst h = 0b11110 * 8 + bitOf (h .checksum) * 4 + udpForm h
+udpFirst h = 0b11110 * 8 + elidedBit (h .checksum) * 4 + udpForm h
 
 abbrev pub udpLength : UdpNhcRepr → ℕ
-udpLength h = 1 + (portsWidth (udpForm h) + checksumWidth (bitOf (h .checksum)))
+udpLength h = 1 + (portsWidth (udpForm h) + checksumWidth (elidedBit (h .checksum)))
 
-abbrev pub udpBytes : UdpNhcRepr → List ℕ
-udpBytes h = byteBytes (udpFirst h) ++ (portsBytes (udpForm h) (h .«src_port») (h .«dst_port») ++ checksumBytes (h .checksum))
+abbrev pub udpNhcBytes : UdpNhcRepr → List ℕ
+udpNhcBytes h = byteBytes (udpFirst h) ++ (portsBytes (udpForm h) (h .«src_port») (h .«dst_port») ++ checksumBytes (h .checksum))

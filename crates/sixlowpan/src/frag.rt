@@ -112,12 +112,8 @@ impl Repr {
         ensures { λ r. ⌜ r ≡ sizeOf self ⌝ }
     {
         match self {
-            Repr::FirstFragment { size, tag: _ } => size,
-            Repr::Fragment {
-                size,
-                tag: _,
-                offset: _,
-            } => size,
+            Repr::FirstFragment { size, .. } => size,
+            Repr::Fragment { size, .. } => size,
         }
     }
 
@@ -125,12 +121,8 @@ impl Repr {
         ensures { λ r. ⌜ r ≡ tagOf self ⌝ }
     {
         match self {
-            Repr::FirstFragment { size: _, tag } => tag,
-            Repr::Fragment {
-                size: _,
-                tag,
-                offset: _,
-            } => tag,
+            Repr::FirstFragment { tag, .. } => tag,
+            Repr::Fragment { tag, .. } => tag,
         }
     }
 
@@ -139,12 +131,8 @@ impl Repr {
         ensures { λ r. ⌜ r ≡ offsetOf self ⌝ }
     {
         match self {
-            Repr::FirstFragment { size: _, tag: _ } => Units(0),
-            Repr::Fragment {
-                size: _,
-                tag: _,
-                offset,
-            } => offset,
+            Repr::FirstFragment { .. } => Units(0),
+            Repr::Fragment { offset, .. } => offset,
         }
     }
 
@@ -152,12 +140,8 @@ impl Repr {
         ensures { λ r. ⌜ r ≡ isFirst self ⌝ }
     {
         match self {
-            Repr::FirstFragment { size: _, tag: _ } => true,
-            Repr::Fragment {
-                size: _,
-                tag: _,
-                offset: _,
-            } => false,
+            Repr::FirstFragment { .. } => true,
+            Repr::Fragment { .. } => false,
         }
     }
 
@@ -165,12 +149,8 @@ impl Repr {
         ensures { λ r. ⌜ r ≡ lengthOf self ⌝ }
     {
         match self {
-            Repr::FirstFragment { size: _, tag: _ } => FIRST_FRAGMENT_HEADER_SIZE,
-            Repr::Fragment {
-                size: _,
-                tag: _,
-                offset: _,
-            } => NEXT_FRAGMENT_HEADER_SIZE,
+            Repr::FirstFragment { .. } => FIRST_FRAGMENT_HEADER_SIZE,
+            Repr::Fragment { .. } => NEXT_FRAGMENT_HEADER_SIZE,
         }
     }
 

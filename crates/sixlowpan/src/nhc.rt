@@ -7,9 +7,9 @@ ghost use Rattle.sixlowpan.specs.Nhc.{ofNhc, nhcOf, nhc};
 ghost use Rattle.sixlowpan.specs.NhcExt.{ofExt, idOf, eidOf, protocolOf, ext, extRest, extFirst, extLength};
 ghost use Rattle.sixlowpan.specs.NhcExt.{extBytes};
 ghost use Rattle.sixlowpan.specs.NhcUdp.{ofUdp, ofPorts, ofChecksum, port8, port4, bothPort4, formOf, port};
-ghost use Rattle.sixlowpan.specs.NhcUdp.{ports, bothPorts, checksum, udp, udpRest, bitOf, portWidth, portsWidth};
+ghost use Rattle.sixlowpan.specs.NhcUdp.{ports, bothPorts, checksum, udp, udpRest, elidedBit, portWidth, portsWidth};
 ghost use Rattle.sixlowpan.specs.NhcUdp.{checksumWidth, portBytes, portsBytes, checksumBytes, udpFirst};
-ghost use Rattle.sixlowpan.specs.NhcUdp.{udpLength, udpBytes};
+ghost use Rattle.sixlowpan.specs.NhcUdp.{udpLength, udpNhcBytes};
 use super::next::NextRead;
 use super::next::next_bit;
 use super::next::next_len;
@@ -263,7 +263,7 @@ fn is_port4(x: u16) -> bool
 fn are_port4(src: u16, dst: u16) -> bool
     ensures { λ r. ⌜ r ≡ bothPort4 src dst ⌝ }
 {
-    if is_port4(src) { is_port4(dst) } else { false }
+    is_port4(src) && is_port4(dst)
 }
 
 // The bits P that two ports are written with.
@@ -382,7 +382,7 @@ fn put_ports(buf: &mut [u8], p: u8, src: u16, dst: u16)
 
 // The bit C.
 fn checksum_bit(sum: WordField) -> u8
-    ensures { λ r. ⌜ (r ≡ bitOf sum) × (r ≤ 1) ⌝ }
+    ensures { λ r. ⌜ (r ≡ elidedBit sum) × (r ≤ 1) ⌝ }
 {
     match sum {
         WordField::None => 1,
@@ -392,7 +392,7 @@ fn checksum_bit(sum: WordField) -> u8
 
 // How many bytes carry the checksum.
 fn checksum_len(sum: WordField) -> usize
-    ensures { λ r. ⌜ (r ≡ checksumWidth (bitOf sum)) × (r ≤ 2) ⌝ }
+    ensures { λ r. ⌜ (r ≡ checksumWidth (elidedBit sum)) × (r ≤ 2) ⌝ }
 {
     match sum {
         WordField::None => 0,
@@ -471,7 +471,7 @@ impl UdpNhcRepr {
 
     // Writes the header into the front of the room.
     pub fn emit(self, buf: &mut [u8]) -> Written
-        ensures { λ r. ⌜ Emits r (udpLength self) (udpBytes self) (now (buf .entry)) (now (buf .exit)) ⌝ }
+        ensures { λ r. ⌜ Emits r (udpLength self) (udpNhcBytes self) (now (buf .entry)) (now (buf .exit)) ⌝ }
     {
         let n = self.buffer_len();
         if buf.len() < n {

@@ -10,19 +10,19 @@ wide-at-requires c κs = search needs
 cast-if1 : tie.Need-cast-if1
 cast-if1 c = search needs
 
+shared-slice-read-if2 : tie.Need-shared-slice-read-if2
+shared-slice-read-if2 c = search needs
+
+shared-slice-read-result : tie.Need-shared-slice-read-result
+shared-slice-read-result c = search needs
+
 returns : tie.Need-returns
 unfolding goodHead
 returns c = search block-steps
 
-shared-slice-read-if2 : tie.Need-shared-slice-read-if2
-shared-slice-read-if2 c = search needs
-
 returns-2 : tie.Need-returns-2
 unfolding goodHead
 returns-2 c = search block-steps
-
-shared-slice-read-result : tie.Need-shared-slice-read-result
-shared-slice-read-result c = search needs
 
 returns-3 : tie.Need-returns-3
 unfolding goodHead
@@ -34,8 +34,8 @@ good-head-spec =
     (tie.spec
     wide-at-requires
     cast-if1
-    returns
     shared-slice-read-if2
-    returns-2
     shared-slice-read-result
+    returns
+    returns-2
     returns-3)

@@ -16,4 +16,4 @@ returns-2 : tie.Need-returns-2
 returns-2 c = search flags
 
 pub either-at-spec : {M : Type 1} → statement M
-either-at-spec = tie.close (tie.spec mesh-at-requires returns broadcast-at-requires returns-2)
+either-at-spec = tie.close (tie.spec mesh-at-requires broadcast-at-requires returns returns-2)
