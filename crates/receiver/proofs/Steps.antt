@@ -29,7 +29,7 @@ use Rattle.reassembly.specs.declared.part.Outcome.{Outcome}
 use Rattle.reassembly.specs.declared.slot.Source.{Source}
 use Rattle.reassembly.specs.declared.slot.Key.{Key}
 use Rattle.receiver.specs.Receive.{senderOf, keyOf, welcome, admitted, tested, brings, carries, frameCall}
-use Rattle.receiver.specs.Steps.{Told}
+use Rattle.receiver.specs.Steps.{HandsOver}
 
 -- ---- who sends it to whom
 module _ (gs : List Source) (s : List ℕ) (y : ArrivalAnswer) (p : ofArrival y ≡ arrival s) where
@@ -97,10 +97,10 @@ unfolding holdsIn
 holds-all m d = rw (le-leb (length d) (length d) (omega arith), take-all (length d) d (omega arith)) refl
 
 module _ (m : UdpSum) (d o : List ℕ) (h : Bool) (e : h ≡ holdsIn m (length d) d) where
-  pub told-right : h ≡ true → (o′ : List ℕ) → o′ ≡ put 0 (take (length d) (drop 0 d)) o → Told (Outcome.Out (length d)) o o′ (tested m d)
+  pub told-right : h ≡ true → (o′ : List ℕ) → o′ ≡ put 0 (take (length d) (drop 0 d)) o → HandsOver (Outcome.Out (length d)) o o′ (tested m d)
   unfolding tested
   told-right q o′ w = rw (sym (holds-all m d) ∙ sym e ∙ q) record { answer = refl; output = w ∙ ap (λ z. put 0 z o) (take-all (length d) d (omega arith)) }
 
-  pub told-wrong : h ≡ false → Told (Outcome.Refused BadChecksum) o o (tested m d)
+  pub told-wrong : h ≡ false → HandsOver (Outcome.Refused BadChecksum) o o (tested m d)
   unfolding tested
   told-wrong q = rw (sym (holds-all m d) ∙ sym e ∙ q) record { answer = refl; output = refl }

@@ -29,7 +29,7 @@ use Rattle.reassembly.proofs.Answers.{enough-output, aged-is, aged-whole, aged-
 use Rattle.reassembly.proofs.AtSlot.{take-own, take-other, take-bad, take-none}
 use Rattle.reassembly.proofs.Unwritten.{splice-back}
 use Rattle.receiver.specs.Receive.{frameCall, callOf}
-use Rattle.receiver.specs.Steps.{judged, Timed, Told, called, ReceivesIn, openSlot, newSlot, slotFor, TakesIn}
+use Rattle.receiver.specs.Steps.{judged, Timed, HandsOver, called, ReceivesIn, openSlot, newSlot, slotFor, TakesIn}
 use Rattle.receiver.proofs.Names.{call-of, frame-part, frame-at}
 
 abbrev state : Table → List ℕ → State
@@ -180,5 +180,5 @@ pub takes : (x : Table) (t : ℕ) (p : Part) (i : ℕ) → i ≡ slotFor x p →
     → (y : Table) → y ≡ withSlot x i (r .slot) → TakesIn x t p (r .outcome) y m m′ o o′
 takes x t p i e m o z a r m′ o′ D y b s ctx F tb T = rw b (gives-slot _ _ x i m o (leaves-part tb x t s ctx m o T p F i e) r m′ o′ (rw a at D))
 
-pub answers : (x : Table) (t : ℕ) (s ctx m o : List ℕ) (a : Reply (List ℕ)) → frameCall (gatesOf x) ctx t s ≡ other t a → (r : Outcome) (o′ : List ℕ) → Told r o o′ a → ReceivesIn x t s ctx r x m m o o′
+pub answers : (x : Table) (t : ℕ) (s ctx m o : List ℕ) (a : Reply (List ℕ)) → frameCall (gatesOf x) ctx t s ≡ other t a → (r : Outcome) (o′ : List ℕ) → HandsOver r o o′ a → ReceivesIn x t s ctx r x m m o o′
 answers x t s ctx m o a F r o′ A tb T = gives-of _ a x m o o′ (leaves-answer tb x t s ctx m o T a F) r (A .answer) (A .output)

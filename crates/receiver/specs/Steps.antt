@@ -36,7 +36,7 @@ pub record Timed (tb x : Table) (t : ℕ) (m o : List ℕ) : Type 0 where
 
 -- ---- the frame
 -- the answer r and the output o, o₀ before, are as a says
-pub record Told (r : Outcome) (o₀ o : List ℕ) (a : Reply (List ℕ)) : Type 0 where
+pub record HandsOver (r : Outcome) (o₀ o : List ℕ) (a : Reply (List ℕ)) : Type 0 where
   pub answer : ofOutcome r ≡ told a
   pub output : o ≡ outputAfter a o₀
 

@@ -14,7 +14,7 @@ ghost use Rattle.reassembly.specs.Parts.{withBytes};
 ghost use Rattle.reassembly.specs.Table.{step, Gives};
 ghost use Rattle.words.specs.Words.{tableIn};
 ghost use Rattle.receiver.specs.Receive.{senderOf, keyOf, admitted, tested, callOf};
-ghost use Rattle.receiver.specs.Steps.{ofJudged, judged, Told, ReceivesIn, TakesIn};
+ghost use Rattle.receiver.specs.Steps.{ofJudged, judged, HandsOver, ReceivesIn, TakesIn};
 use expand::checksum::UdpSum;
 use expand::checksum::is_right;
 use expand::copy::put_slice;
@@ -99,7 +99,7 @@ fn key_of(a: Arrival, size: u16, tag: u16) -> Key
 // A datagram that came whole: to the output's start, but not where a checksum that it carries does not hold, 17.
 fn hand_over(datagram: &[u8], sum: UdpSum, out: &mut [u8]) -> Outcome
     requires { ⌜ length (now datagram) ≤ length (now out) ⌝ }
-    ensures { λ r. ⌜ Told r (now (out .entry)) (now (out .exit)) (tested sum (now (datagram .entry))) ⌝ }
+    ensures { λ r. ⌜ HandsOver r (now (out .entry)) (now (out .exit)) (tested sum (now (datagram .entry))) ⌝ }
 {
     let n = datagram.len();
     if is_right(datagram, n, sum) {
