@@ -5,7 +5,6 @@ use reassembly::Node;
 use reassembly::Outcome;
 use reassembly::Slot;
 use reassembly::Source;
-use reassembly::Table;
 use text::field;
 use text::print;
 
@@ -82,11 +81,11 @@ fn slot(out: &mut [u8], to: usize, number: usize, s: Slot) -> usize {
 }
 
 // The open slots, in order.
-pub fn slots(out: &mut [u8], to: usize, t: Table) -> usize {
+pub fn slots(out: &mut [u8], to: usize, t: &[u64; 149]) -> usize {
     let mut n = print::text(out, to, b" |");
     let mut i: usize = 0;
     while i < 8 {
-        let s = t.slots[i];
+        let s = words::slot_at(t, i);
         n = slot(out, n, i, s);
         i += 1;
     }

@@ -6,7 +6,6 @@ use ieee802154::Address;
 use ieee802154::PanField;
 use reassembly::Gateway;
 use reassembly::Listed;
-use reassembly::Table;
 use receiver::receive;
 use text::field;
 use text::line::find;
@@ -17,9 +16,10 @@ const NO_GATEWAY: Gateway = Gateway {
     pan: PanField::None,
 };
 
-// The table, once a list of gateways was taken, and the place in the output behind the last answer.
+// The table in its numbers (crate `words`), once a list of gateways was taken, and the place in the output behind the
+// last answer.
 pub struct Session {
-    pub table: Table,
+    pub table: [u64; 149],
     pub made: bool,
     pub to: usize,
 }
@@ -50,9 +50,7 @@ impl Request {
 impl Session {
     // There is no table yet.
     pub fn start() -> Session {
-        let none = NO_GATEWAY;
-        let f = Table::new([none; 4], 0);
-        let table = f.table;
+        let table = [0u64; 149];
         Session {
             table,
             made: false,
@@ -98,17 +96,13 @@ fn gateways(line: &[u8], from: usize, session: Session, out: &mut [u8]) -> Sessi
     if !field::ended(line, next) {
         return bad(session, out);
     }
-    let f = Table::new(all, count);
-    let answer = f.answer;
-    match answer {
-        Listed::Accepted => {
-            let table = f.table;
-            Session {
-                table,
-                made: true,
-                to: print::text(out, session.to, b"ok"),
-            }
-        }
+    let mut table = session.table;
+    match words::begin(&mut table, all, count) {
+        Listed::Accepted => Session {
+            table,
+            made: true,
+            to: print::text(out, session.to, b"ok"),
+        },
         Listed::Refused(e) => session.moved_to(answer::refused(out, session.to, e)),
     }
 }
@@ -145,15 +139,14 @@ fn receive_frame(
 ) -> Session {
     let frame = field::part(scratch, 0, r.frame);
     let contexts = field::part(scratch, r.frame, r.contexts);
-    let before = session.table;
-    let got = receive(before, r.time, frame, contexts, lent, datagram);
-    let answer = got.answer;
-    let table = got.table;
+    let mut table = session.table;
+    let answer = receive(&mut table, r.time, frame, contexts, lent, datagram);
     let n = answer::outcome(out, session.to, answer, datagram);
+    let to = answer::slots(out, n, &table);
     Session {
         table,
         made: true,
-        to: answer::slots(out, n, table),
+        to,
     }
 }
 

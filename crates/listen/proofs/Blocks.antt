@@ -12,7 +12,7 @@ use Rattle.octets.specs.Read.{choose}
 use Rattle.capture.specs.File.{pieces}
 use Rattle.capture.proofs.File.{cut}
 use Rattle.listen.specs.Lines.{Page, putLine, putLines}
-use Rattle.listen.specs.Heard.{Listener, Listened, hearBlock, thenHeard, hearBlocks, hearAll, Hears}
+use Rattle.listen.specs.Heard.{Standing, Listener, Listened, hearBlock, thenHeard, hearBlocks, hearAll, Hears}
 use Rattle.listen.specs.declared.ear.Ear.{Ear}
 use Rattle.listen.specs.declared.ear.Heard.{Heard}
 use Rattle.listen.proofs.Hearing.{listener, page}
@@ -68,6 +68,9 @@ then-on a b e = ap (λ t. choose t (record { after = b .after; said = a .said ++
 then-off : (a b : Listened) → a .more ≡ false → thenHeard a b ≡ a
 then-off a b e = ap (λ t. choose t (record { after = b .after; said = a .said ++ b .said; more = b .more }) a) e
 
+abbrev listens : Standing → List ℕ → List ℕ → Listener
+listens e m o = record { ear = e; mem = m; out = o }
+
 -- the block that is due, and then what is left behind it
 module _ (s : List ℕ) (l : ℕ) (x : Listener) (h : l ≤ length s) (k : 0 < l) where
   abbrev due : Listened
@@ -89,7 +92,7 @@ module _ (s : List ℕ) (l : ℕ) (x : Listener) (h : l ≤ length s) (k : 0 < l
     pub block-turn : r .more ≡ true → Onward s (l - 512) x₀ (listener (r .ear) m o) p₀ (page room (r .next))
     block-turn e =
         let D = heardDue in
-        let y : listener (r .ear) m o ≡ due .after = ap₂ (λ (u : Ear) (v : List ℕ). listener u v o) (D .ear) (D .memory) ∙ ap (listener (due .after .ear) (due .after .mem)) (D .output) in
+        let y : listener (r .ear) m o ≡ due .after = ap₂ (λ (u : Standing) (v : List ℕ). listens u v o) (D .ear) (D .memory) ∙ ap (listens (due .after .ear) (due .after .mem)) (D .output) in
         let t = due-first ∙ then-on due (behind (due .after)) (sym (D .more) ∙ e) in
         record {
           after = ap (λ z. behind z .after) y ∙ sym (ap (λ u. u .after) t) ∙ G .after;

@@ -25,14 +25,16 @@ use Rattle.reassembly.specs.Fresh.{fresh, sources, unfit, refusedList, Begins}
 use Rattle.reassembly.proofs.Fresh.{sources-are, when-fit}
 use Rattle.reassembly.specs.declared.table.Listed.{Listed}
 use Rattle.reassembly.specs.declared.table.Table.{Table}
+use Rattle.reassembly.specs.declared.part.Outcome.{Outcome}
+use Rattle.words.specs.Words.{tableIn}
 use Rattle.receiver.specs.Receive.{callOf}
 use Rattle.listen.specs.Lines.{frameLine, badLine, Page, putLine, putLines}
-use Rattle.listen.specs.Heard.{Listener, Listened, next, frameResult, afterFrame, saidOf, afterFrames, saidOfAll, blockOn, hearBlock, gateways, starting, Hears}
+use Rattle.listen.specs.Heard.{Standing, standing, Listener, Listened, next, frameResult, afterFrame, saidOf, afterFrames, saidOfAll, blockOn, hearBlock, gateways, starting, Hears}
 use Rattle.listen.specs.declared.ear.Ear.{Ear}
 use Rattle.listen.specs.declared.ear.Heard.{Heard}
 
 abbrev pub listener : Ear → List ℕ → List ℕ → Listener
-listener e m o = record { ear = e; mem = m; out = o }
+listener e m o = record { ear = standing e; mem = m; out = o }
 
 abbrev pub page : List ℕ → ℕ → Page
 page room at = record { room = room; at = at }
@@ -76,17 +78,18 @@ rest s k h =
     let l : k < length (framesOf s) = omega (arith, frames-length s) in
     drop-cons (framesOf s) k noFrame l ∙ ap₂ (λ f j. f ∷ drop j (framesOf s)) (frames-at s k h) (sym (add-one k))
 
-module _ (s : List ℕ) (k : ℕ) (x₀ : Listener) (e : Ear) (m o : List ℕ) (p₀ : Page) (was : List ℕ) (at : ℕ) (r : Received) (m′ o′ : List ℕ) (t : ℕ) (f : List ℕ) (n : ℕ) (room : List ℕ) (to : ℕ) where
+module _ (s : List ℕ) (k : ℕ) (x₀ : Listener) (e : Ear) (m o : List ℕ) (p₀ : Page) (was : List ℕ) (at : ℕ) (y : Outcome) (w m′ o′ : List ℕ) (t : ℕ) (f : List ℕ) (n : ℕ) (room : List ℕ) (to : ℕ) where
   pub turn : Going s k x₀ (listener e m o) p₀ (page was at) → k < countOf s → t ≡ timeOf k s → f ≡ frameOf k s
-      → Gives r m′ o o′ (step (record { table = e .table; mem = m }) (callOf m o (gatesOf (e .table)) [] t f))
-      → n ≡ next (e .frames) → Printed at (frameLine n (ofOutcome (r .answer))) was room to
-      → Going s (k + 1) x₀ (listener (record { table = r .table; frames = n; block = e .block }) m′ o′) p₀ (page room to)
+      → Gives (record { answer = y; table = tableIn w }) m′ o o′ (step (record { table = tableIn (e .table); mem = m }) (callOf m o (gatesOf (tableIn (e .table))) [] t f))
+      → n ≡ next (e .frames) → Printed at (frameLine n (ofOutcome y)) was room to
+      → Going s (k + 1) x₀ (listener (record { table = w; frames = n; block = e .block }) m′ o′) p₀ (page room to)
   unfolding frameResult afterFrames saidOfAll putLines
   turn g h T F G N P =
       let x : Listener = listener e m o in
+      let r : Received = record { answer = y; table = tableIn w } in
       let G′ : Gives r m′ o o′ (frameResult x (timedOf k s)) = rw (T, F) at G in
       let a = after-is x (timedOf k s) r m′ o′ n G′ N in
-      let q : page room to ≡ putLine (saidOf x (timedOf k s)) (page was at) = page-is (frameLine n (ofOutcome (r .answer))) was room at to P ∙ ap (λ l. putLine l (page was at)) (said-is x (timedOf k s) r m′ o′ n G′ N) in
+      let q : page room to ≡ putLine (saidOf x (timedOf k s)) (page was at) = page-is (frameLine n (ofOutcome y)) was room at to P ∙ ap (λ l. putLine l (page was at)) (said-is x (timedOf k s) r m′ o′ n G′ N) in
       record {
         after = ap (λ y. afterFrames y (drop (k + 1) (framesOf s))) a ∙ sym (ap (afterFrames x) (rest s k h)) ∙ g .after;
         said = ap₂ (λ y z. putLines (saidOfAll y (drop (k + 1) (framesOf s))) z) a q ∙ sym (ap (λ l. putLines (saidOfAll x l) (page was at)) (rest s k h)) ∙ g .said;
@@ -108,18 +111,18 @@ pub heard-good : (x : Listener) (s : List ℕ) (j : Judged) (n : ℕ) (r : Heard
 unfolding hearBlock
 heard-good x s j n r m o was room at b p q h e =
     let g : goodBlock (x .ear .block) s ≡ true = told-good j (x .ear .block) s p n q .0 in
-    let w : record { table = r .ear .table; frames = r .ear .frames; block = b } ≡ blockOn (afterFrames x (framesOf s)) .ear =
-    ap (λ k. record { table = r .ear .table; frames = r .ear .frames; block = k }) e
-    ∙ ap (λ (y : Ear). record { table = y .table; frames = y .frames; block = next (y .block) }) (h .ear) in
+    let w : record { table = tableIn (r .ear .table); frames = r .ear .frames; block = b } ≡ blockOn (afterFrames x (framesOf s)) .ear =
+    ap (λ k. record { table = tableIn (r .ear .table); frames = r .ear .frames; block = k }) e
+    ∙ ap (λ (y : Standing). record { table = y .table; frames = y .frames; block = next (y .block) }) (h .ear) in
     rw g (record { ear = w; memory = h .memory; output = h .output; more = refl; text = h .text })
 
-pub heard-bad : (x : Listener) (s : List ℕ) (j : Judged) (e : Refusal) (was room : List ℕ) (at to : ℕ) → ofJudged j ≡ judged (x .ear .block) s → j ≡ Judged.Refused e
-    → Printed at (badLine (x .ear .block)) was room to
-    → Hears (record { ear = x .ear; more = false; next = to }) (x .mem) (x .out) was room at (hearBlock x s)
+pub heard-bad : (e : Ear) (m o : List ℕ) (s : List ℕ) (j : Judged) (a : Refusal) (was room : List ℕ) (at to : ℕ) → ofJudged j ≡ judged (e .block) s → j ≡ Judged.Refused a
+    → Printed at (badLine (e .block)) was room to
+    → Hears (record { ear = e; more = false; next = to }) m o was room at (hearBlock (listener e m o) s)
 unfolding hearBlock putLines
-heard-bad x s j e was room at to p q h =
-    let g : goodBlock (x .ear .block) s ≡ false = told-bad j (x .ear .block) s p e q in
-    rw g (record { ear = refl; memory = refl; output = refl; more = refl; text = page-is (badLine (x .ear .block)) was room at to h })
+heard-bad e m o s j a was room at to p q h =
+    let g : goodBlock (e .block) s ≡ false = told-bad j (e .block) s p a q in
+    rw g (record { ear = refl; memory = refl; output = refl; more = refl; text = page-is (badLine (e .block)) was room at to h })
 
 -- ---- the beginning
 -- 14 lets the four pass: computed
@@ -127,6 +130,6 @@ four-fit : refusedList 4 (sources 4 gateways) ≡ false
 unfolding refusedList sources unfit sameSource sameNode present addressed count
 four-fit = refl
 
-pub begins : (y : Listed) (x : Table) → Begins y x 4 gateways → record { table = x; frames = 0; block = 0 } ≡ starting
+pub begins : (y : Listed) (t x : Table) → Begins y t x 4 gateways → record { table = x; frames = 0; block = 0 } ≡ starting
 unfolding starting
-begins y x b = ap (λ (t : Table). record { table = t; frames = 0; block = 0 }) (when-fit 4 gateways y x b four-fit ∙ ap fresh (sources-are 4 gateways))
+begins y t x b = ap (λ (z : Table). record { table = z; frames = 0; block = 0 }) (when-fit 4 gateways y t x b four-fit ∙ ap fresh (sources-are 4 gateways))

@@ -1,12 +1,12 @@
 -- What the contracts come to: they leave no second answer; where there is room the text is that of the definition; and a capture may be heard
 -- part by part.
-use Prim.Native.Nat.{ℕ, zero, suc, _+_, _*_, _/_, _≤_, _<_}
+use Prim.Native.Nat.{ℕ, zero, suc, _+_, _*_, _/_, _^_, _≤_, _<_}
 use native.Mathlib.Nat.{add-zero}
 use native.Mathlib.Omega.{arith}
 use mathlib.Core.Bool.{Bool, true, false}
 use mathlib.Core.List.{List, [], _∷_, _++_, append-assoc}
 use mathlib.Core.Path.{_≡_, refl, sym, ap, ap₂, subst, _∙_}
-use lib.ListN.{length, take, drop, length-append, length-drop}
+use lib.ListN.{length, getD, take, drop, length-append, length-drop}
 use lib.Seq.{take-append-le, drop-append-le}
 use borrow.Author.Tests.{le-leb}
 use Rattle.octets.specs.Read.{choose}
@@ -15,9 +15,10 @@ use Rattle.octets.proofs.Puts.{put-append}
 use Rattle.expand.proofs.CopyLaws.{length-put}
 use Rattle.io.specs.Digits.{digits}
 use Rattle.text.specs.Text.{Printed, Decimal}
+use Rattle.words.proofs.Unique.{table-one}
 use Rattle.listen.specs.Lines.{Page, putLine, putLines}
 use Rattle.capture.specs.File.{pieces, blocksOf, joined}
-use Rattle.listen.specs.Heard.{Listener, Listened, hearBlock, thenHeard, hearBlocks, hearAll, lastLine, beginning, heard, Hears}
+use Rattle.listen.specs.Heard.{Standing, standing, Listener, Listened, hearBlock, thenHeard, hearBlocks, hearAll, lastLine, beginning, heard, Hears}
 use Rattle.listen.specs.declared.ear.Ear.{Ear}
 use Rattle.listen.specs.declared.ear.Heard.{Heard}
 use Rattle.listen.proofs.Hearing.{page}
@@ -25,10 +26,21 @@ use Rattle.capture.proofs.File.{cut}
 use Rattle.listen.proofs.Decimals.{fewest-one}
 
 -- ---- any two answers are equal, and so are the lent bytes after them
-pub hears-one : (q : Listened) (was : List ℕ) (at : ℕ) (y z : Heard) (m m′ o o′ x x′ : List ℕ) → Hears y m o was x at q → Hears z m′ o′ was x′ at q → (y ≡ z) × (m ≡ m′) × (o ≡ o′) × (x ≡ x′)
-hears-one q was at y z m m′ o o′ x x′ A B =
+-- an ear's table, as every one in code has it: 149 numbers of 64 bits
+pub record Numbers (ws : List ℕ) : Type 0 where
+  pub count : length ws ≡ 149
+  pub fit : (k : ℕ) → k < 149 → getD ws k 0 < 2 ^ 64
+
+ear-one : (d e : Ear) → Numbers (d .table) → Numbers (e .table) → standing d ≡ standing e → d ≡ e
+ear-one d e N M q =
+    ap (λ (ws : List ℕ). record { table = ws; frames = d .frames; block = d .block }) (table-one (d .table) (e .table) (N .count) (M .count) (N .fit) (M .fit) (ap (λ (s : Standing). s .table) q))
+    ∙ ap₂ (λ (n b : ℕ). record { table = e .table; frames = n; block = b }) (ap (λ (s : Standing). s .frames) q) (ap (λ (s : Standing). s .block) q)
+
+pub hears-one : (q : Listened) (was : List ℕ) (at : ℕ) (y z : Heard) (m m′ o o′ x x′ : List ℕ) → Numbers (y .ear .table) → Numbers (z .ear .table) → Hears y m o was x at q → Hears z m′ o′ was x′ at q
+    → (y ≡ z) × (m ≡ m′) × (o ≡ o′) × (x ≡ x′)
+hears-one q was at y z m m′ o o′ x x′ N M A B =
     let t = A .text ∙ sym (B .text) in
-    let e : y .ear ≡ z .ear = A .ear ∙ sym (B .ear) in
+    let e : y .ear ≡ z .ear = ear-one (y .ear) (z .ear) N M (A .ear ∙ sym (B .ear)) in
     let n : y .next ≡ z .next = ap (λ p. p .at) t in
     let h : y .more ≡ z .more = A .more ∙ sym (B .more) in (
       ap (λ (u : Ear). record { ear = u; more = y .more; next = y .next }) e

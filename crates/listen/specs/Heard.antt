@@ -15,14 +15,26 @@ use Rattle.reassembly.specs.Parts.{told, outputAfter}
 use Rattle.reassembly.specs.Table.{Result, step}
 use Rattle.reassembly.specs.Fresh.{gateOf, fresh}
 use Rattle.reassembly.specs.declared.table.Gateway.{Gateway}
+use Rattle.reassembly.specs.declared.table.Table.{Table}
+use Rattle.words.specs.Words.{tableIn}
 use Rattle.receiver.specs.Receive.{callOf}
 use Rattle.listen.specs.Lines.{frameLine, badLine, endLine, Page, putLines}
 use Rattle.listen.specs.declared.ear.Ear.{Ear}
 use Rattle.listen.specs.declared.ear.Heard.{Heard}
 
--- who listens: the table and the counts, the lent memory, and the output
+-- where a listener stands: the slot table, how many frames were frameResult, and the number of the block that is due
+pub record Standing : Type 0 where
+  pub table : Table
+  pub frames : ℕ
+  pub block : ℕ
+
+-- that of an ear, whose table is in numbers
+abbrev pub standing : Ear → Standing
+standing e = record { table = tableIn (e .table); frames = e .frames; block = e .block }
+
+-- who listens: where it stands, the lent memory, and the output
 pub record Listener : Type 0 where
-  pub ear : Ear
+  pub ear : Standing
   pub mem : List ℕ
   pub out : List ℕ
 
@@ -70,7 +82,7 @@ hearFrames x s = record { after = afterFrames x (framesOf s); said = saidOfAll x
 abbrev pub blockOn : Listener → Listener
 blockOn x = record { ear = record { table = x .ear .table; frames = x .ear .frames; block = next (x .ear .block) }; mem = x .mem; out = x .out }
 
--- a good block of the number that is due; at any other nothing is received
+-- a good block of the number that is due; at any other nothing is frameResult
 unfoldable pub hearBlock : Listener → List ℕ → Listened
 hearBlock x s =
     choose (goodBlock (x .ear .block) s)
@@ -86,7 +98,7 @@ abbrev pub gateways : List Gateway
 gateways = listedAs 0x0001 ∷ listedAs 0x0002 ∷ listedAs 0x0003 ∷ listedAs 0x0004 ∷ []
 
 -- at the beginning
-unfoldable pub starting : Ear
+unfoldable pub starting : Standing
 starting = record { table = fresh (gateOf (listedAs 1) ∷ gateOf (listedAs 2) ∷ gateOf (listedAs 3) ∷ gateOf (listedAs 4) ∷ []); frames = 0; block = 0 }
 
 -- what follows is heard where reading goes on
@@ -115,7 +127,7 @@ heard s = joined (hearAll beginning s .said) ++ lastLine (hearAll beginning s)
 -- ---- what the contract says
 -- the answer r, the lent memory m, the output o and the text x, x₀ before from the place at, are as q says
 pub record Hears (r : Heard) (m o x₀ x : List ℕ) (at : ℕ) (q : Listened) : Type 0 where
-  pub ear : r .ear ≡ q .after .ear
+  pub ear : standing (r .ear) ≡ q .after .ear
   pub memory : m ≡ q .after .mem
   pub output : o ≡ q .after .out
   pub more : r .more ≡ q .more

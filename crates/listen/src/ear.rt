@@ -2,7 +2,7 @@
 ghost use mathlib.Core.Path.{_≡_};
 ghost use Prim.Native.Nat.{_-_};
 ghost use lib.ListN.{take, drop};
-ghost use Rattle.listen.specs.Heard.{listedAs, starting, hearFrames, hearBlock, hearAll, Hears};
+ghost use Rattle.listen.specs.Heard.{listedAs, standing, starting, hearFrames, hearBlock, hearAll, Hears};
 use super::line::put_bad;
 use super::line::put_frame;
 use capture::block::BLOCK;
@@ -15,13 +15,13 @@ use ieee802154::Address;
 use ieee802154::Pan;
 use ieee802154::PanField;
 use reassembly::Gateway;
-use reassembly::Table;
 use receiver::receive;
 use std::num::wrapping_add_u64;
 
-// The slot table, how many frames were received, and the number of the block that is due.
+// The slot table in its numbers (crate `words`), how many frames were received, and the number of the block that is
+// due.
 pub struct Ear {
-    pub table: Table,
+    pub table: [u64; 149],
     pub frames: u64,
     pub block: u64,
 }
@@ -46,14 +46,14 @@ fn listed_as(x: u16) -> Gateway
 impl Ear {
     // At the beginning of a capture.
     pub fn new() -> Ear
-        ensures { λ r. ⌜ r ≡ starting ⌝ }
+        ensures { λ r. ⌜ standing r ≡ starting ⌝ }
     {
         let a = listed_as(1);
         let b = listed_as(2);
         let c = listed_as(3);
         let d = listed_as(4);
-        let fresh = Table::new([a, b, c, d], 4);
-        let table = fresh.table;
+        let mut table = [0u64; 149];
+        words::begin(&mut table, [a, b, c, d], 4);
         Ear {
             table,
             frames: 0,
@@ -72,25 +72,21 @@ fn hear_frames(
     at: usize,
 ) -> Heard
     ensures { λ r. ⌜ Hears r (now (mem .exit)) (now (out .exit)) (now (text .entry)) (now (text .exit)) at
-        (hearFrames (record { ear = ear; mem = now (mem .entry); out = now (out .entry) }) (now (block .entry))) ⌝ }
+        (hearFrames (record { ear = standing ear; mem = now (mem .entry); out = now (out .entry) }) (now (block .entry))) ⌝ }
 {
     let n = count(block);
     let mut e = ear;
     let mut to = at;
     let mut k: usize = 0;
     while k < n {
-        let table = e.table;
-        let r = receive(
-            table,
+        let answer = receive(
+            &mut e.table,
             time(block, k) as u64,
             frame(block, k),
             &block[0..0],
             mem,
             out,
         );
-        let answer = r.answer;
-        let after = r.table;
-        e.table = after;
         e.frames = wrapping_add_u64(e.frames, 1);
         to = put_frame(text, to, e.frames, answer);
         k += 1;
@@ -114,7 +110,7 @@ pub fn hear(
     at: usize,
 ) -> Heard
     ensures { λ r. ⌜ Hears r (now (mem .exit)) (now (out .exit)) (now (text .entry)) (now (text .exit)) at
-        (hearBlock (record { ear = ear; mem = now (mem .entry); out = now (out .entry) }) (now (block .entry))) ⌝ }
+        (hearBlock (record { ear = standing ear; mem = now (mem .entry); out = now (out .entry) }) (now (block .entry))) ⌝ }
 {
     match judge(block, ear.block) {
         Judged::Good(_) => {
@@ -172,7 +168,7 @@ pub fn hear_all(
     at: usize,
 ) -> Heard
     ensures { λ r. ⌜ Hears r (now (mem .exit)) (now (out .exit)) (now (text .entry)) (now (text .exit)) at
-        (hearAll (record { ear = ear; mem = now (mem .entry); out = now (out .entry) }) (now (capture .entry))) ⌝ }
+        (hearAll (record { ear = standing ear; mem = now (mem .entry); out = now (out .entry) }) (now (capture .entry))) ⌝ }
 {
     let mut h = Heard {
         ear,

@@ -6,10 +6,10 @@ use Rattle.calls.proofs.commands.gateways.Statement.{statement}
 use Rattle.calls.proofs.commands.gateways.Tie as tie
 
 abbrev Inv-loop : tie.InvT-loop
-Inv-loop line from session out all₀ count₀ next₀ t15 all count next = length all ≡ 4
+Inv-loop line from session out all₀ count₀ next₀ t13 all count next = length all ≡ 4
 
 abbrev μ-loop : tie.MeasureT-loop
-μ-loop line from session out all₀ count₀ next₀ t15 all count next = length line + 1 - count
+μ-loop line from session out all₀ count₀ next₀ t13 all count next = length line + 1 - count
 
 loop-holds : tie.Need-loop-holds Inv-loop μ-loop
 loop-holds c = search needs
@@ -53,8 +53,8 @@ same-length-2 c = search needs
 returns-2 : tie.Need-returns-2 Inv-loop μ-loop
 returns-2 c = search needs
 
-new-requires : tie.Need-new-requires Inv-loop μ-loop
-new-requires c κs = search needs
+begin-requires : tie.Need-begin-requires Inv-loop μ-loop
+begin-requires c κs = search needs
 
 enum-told : tie.Need-enum-told Inv-loop μ-loop
 enum-told c = search needs
@@ -65,8 +65,8 @@ slice-aggregate-text c = search needs
 text-requires : tie.Need-text-requires Inv-loop μ-loop
 text-requires c κs = search needs
 
-enum-known-answer : tie.Need-enum-known-answer Inv-loop μ-loop
-enum-known-answer c = search needs
+enum-known-e : tie.Need-enum-known-e Inv-loop μ-loop
+enum-known-e c = search needs
 
 refused-requires : tie.Need-refused-requires Inv-loop μ-loop
 refused-requires c κs = search needs
@@ -106,11 +106,11 @@ gateways-spec =
     bad-requires-2
     same-length-2
     returns-2
-    new-requires
+    begin-requires
     enum-told
     slice-aggregate-text
     text-requires
-    enum-known-answer
+    enum-known-e
     refused-requires
     moved-to-requires
     same-length-3

@@ -1,4 +1,4 @@
-use Rattle.listen.proofs.Hearing.{listener, heard-good, heard-bad}
+use Rattle.listen.proofs.Hearing.{heard-good, heard-bad}
 use borrow.Author.Needs.{needs}
 use Rattle.listen.proofs.ear.hear.Statement.{statement}
 use Rattle.listen.proofs.ear.hear.Tie as tie
@@ -37,7 +37,7 @@ same-length-4 : tie.Need-same-length-4
 same-length-4 c = search needs
 
 returns-2 : tie.Need-returns-2
-returns-2 c = let a = c .before .before .before .before .before .before .before .before .before .before .before .args in heard-bad (listener (a .ear) (a .mem .now) (a .out .now)) (a .block .now) (c .before .before .before .before .before .before .judge .result) _ _ _ _ _ (c .before .before .before .before .before .before .judge .ensures) (c .before .before .before .before .enum-told2 .given .1) (c .before .before .put-bad .ensures)
+returns-2 c = let a = c .before .before .before .before .before .before .before .before .before .before .before .args in heard-bad (a .ear) (a .mem .now) (a .out .now) (a .block .now) (c .before .before .before .before .before .before .judge .result) _ _ _ _ _ (c .before .before .before .before .before .before .judge .ensures) (c .before .before .before .before .enum-told2 .given .1) (c .before .before .put-bad .ensures)
 
 pub hear-spec : {M : Type 1} → statement M
 hear-spec =

@@ -49,21 +49,21 @@ put-frame-requires : tie.Need-put-frame-requires Inv-loop μ-loop
 put-frame-requires c κs = search needs
 
 add-k : tie.Need-add-k Inv-loop μ-loop
-add-k c = let l = c .before .before .before .before .before .before .before .before .before .before .before .before .before .before .before .before .before .before .loop in
-    let h : l .k < 3 = omega (arith, c .before .before .before .before .before .before .before .before .before .before .before .before .before .before .before .before .before .before .before .count .ensures, c .before .before .before .before .before .before .before .before .before .before .before .before .before .before .before .before .before .loop-test .taken, count-small (c .before .before .before .before .before .before .before .before .before .before .before .before .before .before .before .before .before .before .before .before .before .before .before .before .args .block .now)) in
+add-k c = let l = c .before .before .before .before .before .before .before .before .before .before .before .before .before .before .before .before .before .loop in
+    let h : l .k < 3 = omega (arith, c .before .before .before .before .before .before .before .before .before .before .before .before .before .before .before .before .before .before .count .ensures, c .before .before .before .before .before .before .before .before .before .before .before .before .before .before .before .before .loop-test .taken, count-small (c .before .before .before .before .before .before .before .before .before .before .before .before .before .before .before .before .before .before .before .before .before .before .before .args .block .now)) in
     search needs
 
 loop-less : tie.Need-loop-less Inv-loop μ-loop
 loop-less c = search needs
 
 loop-again : tie.Need-loop-again Inv-loop μ-loop
-loop-again c = let a = c .before .before .before .before .before .before .before .before .before .before .before .before .before .before .before .before .before .before .before .before .before .before .before .before .args in
-    let l = c .before .before .before .before .before .before .before .before .before .before .before .before .before .before .before .before .before .before .loop in (
+loop-again c = let a = c .before .before .before .before .before .before .before .before .before .before .before .before .before .before .before .before .before .before .before .before .before .before .before .args in
+    let l = c .before .before .before .before .before .before .before .before .before .before .before .before .before .before .before .before .before .loop in (
       search needs,
       search needs,
       search needs,
       search needs,
-      turn (a .block .now) (l .k) _ (l .e) (l .mem) (l .out) _ (l .text) (l .to) (c .before .before .before .before .before .before .before .before .before .before .receive .result) _ _ _ _ _ _ _ (l .inv .4) (omega (arith, c .before .before .before .before .before .before .before .before .before .before .before .before .before .before .before .before .before .before .before .count .ensures, c .before .before .before .before .before .before .before .before .before .before .before .before .before .before .before .before .before .loop-test .taken)) (c .before .before .before .before .before .before .before .before .before .before .before .before .before .before .before .time .ensures) (c .before .before .before .before .before .before .before .before .before .before .before .before .before .before .frame .ensures) (c .before .before .before .before .before .before .before .before .before .before .receive .ensures) (c .before .before .before .before .wrapping-add-u64 .ensures) (c .before .before .put-frame .ensures),
+      turn (a .block .now) (l .k) _ (l .e) (l .mem) (l .out) _ (l .text) (l .to) (c .before .before .before .before .before .before .before .before .before .receive .result) _ _ _ _ _ _ _ _ (l .inv .4) (omega (arith, c .before .before .before .before .before .before .before .before .before .before .before .before .before .before .before .before .before .before .count .ensures, c .before .before .before .before .before .before .before .before .before .before .before .before .before .before .before .before .loop-test .taken)) (c .before .before .before .before .before .before .before .before .before .before .before .before .before .before .time .ensures) (c .before .before .before .before .before .before .before .before .before .before .before .before .before .frame .ensures) (c .before .before .before .before .before .before .before .before .before .receive .ensures) (c .before .before .before .before .wrapping-add-u64 .ensures) (c .before .before .put-frame .ensures),
     )
 
 same-length : tie.Need-same-length Inv-loop μ-loop
