@@ -416,6 +416,73 @@ unpack-fill ws u n h =
     let b = length-unpack ws in
     unpack-pack (fill u n (unpack ws)) (omega arith)
 
+same-place : {u i : ℕ} → u ≤ i → i < u + 1 → i ≡ u
+same-place a b = omega arith
+
+-- one mark: the bit of its place joined to its word, the other words as they were
+module _ (ws : List ℕ) (u : ℕ) (l : length ws ≡ 4) (hu : u < 256) where
+  bit-in : (j : ℕ) → digit (2 ^ (u % 64)) j ≡ inR (u % 64) (suc (u % 64)) j
+  bit-in j =
+      let p : 2 ^ suc (u % 64) ≡ 2 ^ (u % 64) * 2 = pow-suc 2 (u % 64) in
+      let e : 2 ^ suc (u % 64) - 2 ^ (u % 64) ≡ 2 ^ (u % 64) = omega arith in
+      ap (λ (x : ℕ). digit x j) (sym e) ∙ digit-mask (suc (u % 64)) (u % 64) j (omega arith)
+
+  one-at : (i : ℕ) → i < 256 → getD (unpack (set ws (u / 64) (bitOr (getD ws (u / 64) 0) (2 ^ (u % 64))))) i false ≡ choose (inR u (u + 1) i) true (getD (unpack ws) i false)
+  one-at i hi = go (eqb (i / 64) (u / 64)) refl
+    where
+      go : (t : Bool) → eqb (i / 64) (u / 64) ≡ t → getD (unpack (set ws (u / 64) (bitOr (getD ws (u / 64) 0) (2 ^ (u % 64))))) i false ≡ choose (inR u (u + 1) i) true (getD (unpack ws) i false)
+      go true t =
+          let q : i / 64 ≡ u / 64 = eqb-true (i / 64) (u / 64) t in
+          let n : u / 64 * 64 + i % 64 ≡ i = omega arith in
+          let k = length-set ws (u / 64) (bitOr (getD ws (u / 64) 0) (2 ^ (u % 64))) in
+          let a : getD (unpack ws) i false ≡ digit (getD ws (u / 64) 0) (i % 64) = ap (λ (x : ℕ). getD (unpack ws) x false) (sym n) ∙ unpack-at ws (u / 64) (i % 64) (omega arith) (omega arith) in
+          let r : inR (u % 64) (suc (u % 64)) (i % 64) ≡ inR u (u + 1) i = in-cong (u % 64) (suc (u % 64)) (i % 64) u (u + 1) i (λ a b. (omega arith, omega arith)) (λ a b. (omega arith, omega arith)) in
+          ap (λ (x : ℕ). getD (unpack (set ws (u / 64) (bitOr (getD ws (u / 64) 0) (2 ^ (u % 64))))) x false) (sym n)
+          ∙ unpack-at (set ws (u / 64) (bitOr (getD ws (u / 64) 0) (2 ^ (u % 64)))) (u / 64) (i % 64) (omega arith) (omega arith)
+          ∙ ap (λ (x : ℕ). digit x (i % 64)) (getD-set-same ws (u / 64) (bitOr (getD ws (u / 64) 0) (2 ^ (u % 64))) 0 (omega arith))
+          ∙ digit-or (getD ws (u / 64) 0) (2 ^ (u % 64)) (i % 64)
+          ∙ ap (λ (x : Bool). choose (digit (getD ws (u / 64) 0) (i % 64)) true x) (bit-in (i % 64) ∙ r)
+          ∙ choose-swap (digit (getD ws (u / 64) 0) (i % 64)) (inR u (u + 1) i) ∙ ap (λ (x : Bool). choose (inR u (u + 1) i) true x) (sym a)
+      go false t =
+          let ne : i / 64 ≡ u / 64 → ⊥ = eqb-false (i / 64) (u / 64) t in
+          let n : i / 64 * 64 + i % 64 ≡ i = omega arith in
+          let k = length-set ws (u / 64) (bitOr (getD ws (u / 64) 0) (2 ^ (u % 64))) in
+          let a : getD (unpack ws) i false ≡ digit (getD ws (i / 64) 0) (i % 64) = ap (λ (x : ℕ). getD (unpack ws) x false) (sym n) ∙ unpack-at ws (i / 64) (i % 64) (omega arith) (omega arith) in
+          ap (λ (x : ℕ). getD (unpack (set ws (u / 64) (bitOr (getD ws (u / 64) 0) (2 ^ (u % 64))))) x false) (sym n)
+          ∙ unpack-at (set ws (u / 64) (bitOr (getD ws (u / 64) 0) (2 ^ (u % 64)))) (i / 64) (i % 64) (omega arith) (omega arith)
+          ∙ ap (λ (x : ℕ). digit x (i % 64)) (getD-set-other ws (u / 64) (i / 64) (bitOr (getD ws (u / 64) 0) (2 ^ (u % 64))) 0 ne)
+          ∙ sym a ∙ ap (λ (x : Bool). choose x true (getD (unpack ws) i false)) (sym (out ne (inR u (u + 1) i) refl))
+        where
+          out : (i / 64 ≡ u / 64 → ⊥) → (t : Bool) → inR u (u + 1) i ≡ t → t ≡ false
+          out ne true p = let r = in-of u (u + 1) i p in absurd (ne (ap (λ (x : ℕ). x / 64) (same-place (r .0) (r .1))))
+          out ne false p = refl
+
+  fits-one : ((i : ℕ) → getD ws i 0 < 2 ^ 64) → (i : ℕ) → getD (set ws (u / 64) (bitOr (getD ws (u / 64) 0) (2 ^ (u % 64)))) i 0 < 2 ^ 64
+  fits-one f i = go (eqb i (u / 64)) refl
+    where
+      go : (t : Bool) → eqb i (u / 64) ≡ t → getD (set ws (u / 64) (bitOr (getD ws (u / 64) 0) (2 ^ (u % 64)))) i 0 < 2 ^ 64
+      go true t =
+          let p : 2 ^ suc (u % 64) ≡ 2 ^ (u % 64) * 2 = pow-suc 2 (u % 64) in
+          let z = pow-pos (u % 64) in
+          let y : 2 ^ suc (u % 64) ≤ 2 ^ 64 = pow-le (suc (u % 64)) 64 (omega arith) in
+          rw (eqb-true i (u / 64) t, getD-set-same ws (u / 64) (bitOr (getD ws (u / 64) 0) (2 ^ (u % 64))) 0 (omega arith))
+          (or-lt 64 (getD ws (u / 64) 0) (2 ^ (u % 64)) (f (u / 64)) (omega arith))
+      go false t = rw (getD-set-other ws (u / 64) i (bitOr (getD ws (u / 64) 0) (2 ^ (u % 64))) 0 (eqb-false i (u / 64) t)) (f i)
+
+  unpack-one : unpack (set ws (u / 64) (bitOr (getD ws (u / 64) 0) (2 ^ (u % 64)))) ≡ fill u 1 (unpack ws)
+  unpack-one =
+      let a = length-unpack (set ws (u / 64) (bitOr (getD ws (u / 64) 0) (2 ^ (u % 64)))) in
+      let b = length-set ws (u / 64) (bitOr (getD ws (u / 64) 0) (2 ^ (u % 64))) in
+      let d = length-unpack ws in
+      let k = length-fill u 1 (unpack ws) in
+      ext-getD false (unpack (set ws (u / 64) (bitOr (getD ws (u / 64) 0) (2 ^ (u % 64))))) (fill u 1 (unpack ws)) (omega arith)
+      (λ i hi. one-at i (omega arith) ∙ sym (fill-at u 1 (unpack ws) i (omega arith)))
+
+  pub mark-one-is : ((i : ℕ) → getD ws i 0 < 2 ^ 64) → set ws (u / 64) (bitOr (getD ws (u / 64) 0) (2 ^ (u % 64))) ≡ pack (fill u 1 (unpack ws))
+  mark-one-is f =
+      sym (pack-unpack (set ws (u / 64) (bitOr (getD ws (u / 64) 0) (2 ^ (u % 64)))) (length-set ws (u / 64) (bitOr (getD ws (u / 64) 0) (2 ^ (u % 64))) ∙ l) (fits-one f))
+      ∙ ap pack unpack-one
+
 -- ---- past the last unit
 
 pub past-none : (l : List Bool) (u : ℕ) → length l ≤ u → getD l u false ≡ false
@@ -452,3 +519,9 @@ empty-range b l u e h = let n : e - u ≡ 0 = omega arith in rw n
 pub empty-fill : (l : List Bool) (u e : ℕ) → e ≤ u → fill u (e - u) l ≡ l
 unfolding fill
 empty-fill l u e h = let n : e - u ≡ 0 = omega arith in rw n
+
+pub past-fill : (l : List Bool) (u : ℕ) → length l ≤ u → fill u 1 l ≡ l
+past-fill l u h =
+    let k = length-fill u 1 l in
+    ext-getD false (fill u 1 l) l k
+    (λ i hi. fill-at u 1 l i (omega arith) ∙ ap (λ (x : Bool). choose x true (getD l i false)) (in-before u (u + 1) i (omega arith)))

@@ -1,8 +1,9 @@
 // A mark for each of 256 units, one bit a unit, in four words: unit u is bit u % 64 of word u / 64.
 //
-// `marked`, `mark` and `has_mark` are, on every input, what specs/Marks.antt says of the list of 256 marks that the
-// words stand for (`unpack`). `pack` makes words of marks again, and proofs/Words.antt shows that the two undo each
-// other, so that a fact on the marks fixes the words. A unit from 256 on has no mark, and marking it changes nothing.
+// `marked`, `mark`, `mark_one` and `has_mark` are, on every input, what specs/Marks.antt says of the list of 256 marks
+// that the words stand for (`unpack`). `pack` makes words of marks again, and proofs/Words.antt shows that the two undo
+// each other, so that a fact on the marks fixes the words. A unit from 256 on has no mark, and marking it changes
+// nothing.
 ghost use mathlib.Core.Bool.{true, false};
 ghost use mathlib.Core.Path.{_≡_};
 ghost use Prim.Native.Nat.{_-_, _^_, _<_, _≤_};
@@ -115,6 +116,19 @@ pub fn mark(m: [u64; 4], u: usize, e: usize) -> [u64; 4]
         m[2] | mask(128, u, e),
         m[3] | mask(LAST, u, e),
     ]
+}
+
+// Marks unit u alone: a part's start, which lies in one word.
+pub fn mark_one(m: [u64; 4], u: usize) -> [u64; 4]
+    ensures { λ r. ⌜ r ≡ pack (fill u 1 (unpack m)) ⌝ }
+{
+    if 256 <= u {
+        return m;
+    }
+    let mut n = m;
+    let w = u / 64;
+    n[w] = m[w] | bit(u % 64);
+    n
 }
 
 // Whether one of the marks from u up to, not including, e is b.

@@ -162,7 +162,7 @@ fn with_part(s: Slot, part: Part, n: usize) -> Slot
     let c = marks::mark(covered, u, u + units_of(n));
     f.covered = c;
     let starts = f.starts;
-    let b = marks::mark(starts, u, u + 1);
+    let b = marks::mark_one(starts, u);
     f.starts = b;
     let was = s.sum;
     let m = remembered(offset, sum, was);

@@ -19,11 +19,8 @@ add-mark c = search needs
 mark-requires : tie.Need-mark-requires
 mark-requires c κs = search needs
 
-add-mark-2 : tie.Need-add-mark-2
-add-mark-2 c = search needs
-
-mark-requires-2 : tie.Need-mark-requires-2
-mark-requires-2 c κs = search needs
+mark-one-requires : tie.Need-mark-one-requires
+mark-one-requires c κs = search needs
 
 remembered-requires : tie.Need-remembered-requires
 remembered-requires c κs = search needs
@@ -35,10 +32,8 @@ returns c =
     let a = c .before .before .before .before .before .before .before .before .before .before .args in
     let u = a .part .offset .0 in
     let n : u + b .before .units-of .result - u ≡ units (a .n) = omega (arith, b .before .units-of .ensures .0) in
-    let one : u + 1 - u ≡ 1 = omega arith in
     let x : b .mark .result ≡ pack (fill u (units (a .n)) (unpack (a .s .covered))) = rw n at (b .mark .ensures) in
-    let y : c .before .before .mark2 .result ≡ pack (fill u 1 (unpack (a .s .starts))) = rw one at (c .before .before .mark2 .ensures) in
-    rw (x, y, c .remembered .ensures)
+    rw (x, c .before .before .mark-one .ensures, c .remembered .ensures)
 
 pub with-part-spec : {M : Type 1} → statement M
 with-part-spec =
@@ -48,7 +43,6 @@ with-part-spec =
     units-of-requires
     add-mark
     mark-requires
-    add-mark-2
-    mark-requires-2
+    mark-one-requires
     remembered-requires
     returns)
