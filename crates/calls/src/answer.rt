@@ -7,6 +7,7 @@ use reassembly::Slot;
 use reassembly::Source;
 use text::field;
 use text::print;
+use words::WORDS;
 
 pub fn refused(out: &mut [u8], to: usize, e: Refusal) -> usize {
     let n = print::text(out, to, b"no ");
@@ -81,7 +82,7 @@ fn slot(out: &mut [u8], to: usize, number: usize, s: Slot) -> usize {
 }
 
 // The open slots, in order.
-pub fn slots(out: &mut [u8], to: usize, t: &[u64; 149]) -> usize {
+pub fn slots(out: &mut [u8], to: usize, t: &[u64; WORDS]) -> usize {
     let mut n = print::text(out, to, b" |");
     let mut i: usize = 0;
     while i < 8 {

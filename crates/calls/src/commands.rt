@@ -10,6 +10,7 @@ use receiver::receive;
 use text::field;
 use text::line::find;
 use text::print;
+use words::WORDS;
 
 const NO_GATEWAY: Gateway = Gateway {
     addr: Address::Absent,
@@ -19,7 +20,7 @@ const NO_GATEWAY: Gateway = Gateway {
 // The table in its numbers (crate `words`), once a list of gateways was taken, and the place in the output behind the
 // last answer.
 pub struct Session {
-    pub table: [u64; 149],
+    pub table: [u64; WORDS],
     pub made: bool,
     pub to: usize,
 }
@@ -50,7 +51,7 @@ impl Request {
 impl Session {
     // There is no table yet.
     pub fn start() -> Session {
-        let table = [0u64; 149];
+        let table = [0u64; WORDS];
         Session {
             table,
             made: false,

@@ -21,6 +21,7 @@ use iphc::header::Parsed;
 use iphc::header::Repr;
 use octets::cursor::Cursor;
 use reassembly::Outcome;
+use words::WORDS;
 
 // Up to sixteen contexts as flat bytes, 8 each: the first `len` of `bytes`.
 pub struct Flat {
@@ -102,7 +103,7 @@ fn at_most_128(n: usize) -> usize
 }
 
 fn receive_flat(
-    t: &mut [u64; 149],
+    t: &mut [u64; WORDS],
     time: u64,
     frame: &[u8],
     f: Flat,
@@ -121,7 +122,7 @@ fn receive_flat(
 
 // A frame that comes at a time, to the table that the caller keeps in 149 numbers, with the contexts as a slice.
 pub fn receive(
-    t: &mut [u64; 149],
+    t: &mut [u64; WORDS],
     time: u64,
     frame: &[u8],
     contexts: &[AddressContext],

@@ -29,11 +29,12 @@ pub enum PieceAnswer {
     Refused(Refusal),
 }
 
+// In 32 bits, which every controller multiplies by itself.
 fn times(i: u16, u: usize) -> usize
     requires { ⌜ u ≤ 127 ⌝ }
     ensures { λ r. ⌜ (r ≡ i * u) × (r ≤ 8388608) ⌝ }
 {
-    (i as usize) * u
+    ((i as u32) * (u as u32)) as usize
 }
 
 // The part that begins at a place.

@@ -24,6 +24,7 @@ use reassembly::Listed;
 use reassembly::Outcome;
 use reassembly::Source;
 use receiver::receive;
+use words::WORDS;
 
 // What is added to an answer's number: to a datagram's length, and to a refusal's number (LIFT_OUT and LIFT_REFUSED of
 // include/lift.h, 65,536 times over).
@@ -103,7 +104,7 @@ fn pack(o: Outcome) -> u32
 // Makes a table of these gateways, two numbers each: 1 and a short address or 2 and an extended one, with a PAN
 // 65,536 times one more than its identifier added to the first. Answers 0, or 14.
 #[no_mangle]
-pub extern "C" fn lift_begin_flat(t: &mut [u64; 149], gateways: &[u64]) -> u32
+pub extern "C" fn lift_begin_flat(t: &mut [u64; WORDS], gateways: &[u64]) -> u32
     ensures { λ r. ⌜ (r ≡ listAnswer (now (gateways .entry)))
         × (tableIn (now (t .exit)) ≡ tableBegun (tableIn (now (t .entry))) (now (gateways .entry))) ⌝ }
 {
@@ -122,7 +123,7 @@ pub extern "C" fn lift_begin_flat(t: &mut [u64; 149], gateways: &[u64]) -> u32
 // 131,072 and a refusal's number.
 #[no_mangle]
 pub extern "C" fn lift_receive(
-    t: &mut [u64; 149],
+    t: &mut [u64; WORDS],
     time: u64,
     frame: &[u8],
     contexts: &[u8],
@@ -139,7 +140,7 @@ pub extern "C" fn lift_receive(
 
 // How many slots are free.
 #[no_mangle]
-pub extern "C" fn lift_free(t: &[u64; 149]) -> usize
+pub extern "C" fn lift_free(t: &[u64; WORDS]) -> usize
     ensures { λ r. ⌜ r ≡ free (tableIn (now (t .entry)) .slots) ⌝ }
 {
     words::count_free(t)
@@ -147,7 +148,7 @@ pub extern "C" fn lift_free(t: &[u64; 149]) -> usize
 
 // How many slots the gateway of this kind and number holds.
 #[no_mangle]
-pub extern "C" fn lift_held(t: &[u64; 149], kind: u64, number: u64) -> usize
+pub extern "C" fn lift_held(t: &[u64; WORDS], kind: u64, number: u64) -> usize
     ensures { λ r. ⌜ r ≡ held (gateOf (gatewayOf kind number)) (tableIn (now (t .entry)) .slots) ⌝ }
 {
     let g = gateway_of(kind, number);

@@ -17,11 +17,12 @@ use ieee802154::PanField;
 use reassembly::Gateway;
 use receiver::receive;
 use std::num::wrapping_add_u64;
+use words::WORDS;
 
 // The slot table in its numbers (crate `words`), how many frames were received, and the number of the block that is
 // due.
 pub struct Ear {
-    pub table: [u64; 149],
+    pub table: [u64; WORDS],
     pub frames: u64,
     pub block: u64,
 }
@@ -52,7 +53,7 @@ impl Ear {
         let b = listed_as(2);
         let c = listed_as(3);
         let d = listed_as(4);
-        let mut table = [0u64; 149];
+        let mut table = [0u64; WORDS];
         words::begin(&mut table, [a, b, c, d], 4);
         Ear {
             table,

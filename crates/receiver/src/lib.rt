@@ -31,6 +31,7 @@ use reassembly::is_short;
 use reassembly::part::Part;
 use reassembly::take_at;
 use sixlowpan::frag::Units;
+use words::WORDS;
 
 // The bytes of the longest expansion, 455, and one more.
 const SCRATCH: usize = 456;
@@ -63,7 +64,7 @@ fn sender_of(a: Arrival) -> Source
 }
 
 // Who sends a frame to whom, where the sender is a gateway (9) and the destination is present (6).
-fn admit(t: &[u64; 149], frame: &[u8]) -> ArrivalAnswer
+fn admit(t: &[u64; WORDS], frame: &[u8]) -> ArrivalAnswer
     ensures { λ r. ⌜ ofArrival r ≡ admitted (gatesOf (tableIn (now (t .entry)))) (now (frame .entry)) ⌝ }
 {
     match Arrival::read(frame) {
@@ -112,7 +113,7 @@ fn hand_over(datagram: &[u8], sum: UdpSum, out: &mut [u8]) -> Outcome
 // A part, to a table that has taken the time: to the slot that is open under its key, else to one that it may open.
 // `take_at` refuses it where it is no part of its datagram, 10, and where there is no slot for it, 12.
 fn take(
-    t: &mut [u64; 149],
+    t: &mut [u64; WORDS],
     time: u64,
     part: Part,
     bytes: &[u8],
@@ -136,7 +137,7 @@ fn take(
 
 // A frame, to a table that has taken the time.
 fn receive_timed(
-    t: &mut [u64; 149],
+    t: &mut [u64; WORDS],
     time: u64,
     frame: &[u8],
     contexts: &[u8],
@@ -188,7 +189,7 @@ fn receive_timed(
 
 // A frame that comes at a time.
 pub fn receive(
-    t: &mut [u64; 149],
+    t: &mut [u64; WORDS],
     time: u64,
     frame: &[u8],
     contexts: &[u8],

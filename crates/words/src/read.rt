@@ -6,6 +6,7 @@ ghost use Rattle.reassembly.specs.Slots.{freeSlot};
 ghost use Rattle.words.specs.Words.{sourceIn, fourIn, keyOf, sumOf, slotIn, tableIn};
 use super::LAST;
 use super::SLOT_WORDS;
+use super::WORDS;
 use expand::checksum::UdpSum;
 use reassembly::Key;
 use reassembly::Node;
@@ -14,14 +15,14 @@ use reassembly::Source;
 use reassembly::table::SLOTS;
 
 // The last time that the table took.
-pub fn last(t: &[u64; 149]) -> u64
+pub fn last(t: &[u64; WORDS]) -> u64
     ensures { λ r. ⌜ r ≡ tableIn (now (t .entry)) .last ⌝ }
 {
     t[LAST]
 }
 
 // The sender at a place.
-pub(crate) fn source_at(t: &[u64; 149], k: usize) -> Source
+pub(crate) fn source_at(t: &[u64; WORDS], k: usize) -> Source
     requires { ⌜ k + 3 ≤ 149 ⌝ }
     ensures { λ r. ⌜ r ≡ sourceIn (now (t .entry)) k ⌝ }
 {
@@ -32,7 +33,7 @@ pub(crate) fn source_at(t: &[u64; 149], k: usize) -> Source
     Source { node, pan }
 }
 
-fn four_at(t: &[u64; 149], k: usize) -> [u64; 4]
+fn four_at(t: &[u64; WORDS], k: usize) -> [u64; 4]
     requires { ⌜ k + 4 ≤ 149 ⌝ }
     ensures { λ r. ⌜ r ≡ fourIn (now (t .entry)) k ⌝ }
 {
@@ -61,7 +62,7 @@ fn sum_of(kind: u64, w: u64) -> UdpSum
 }
 
 // The record at a place.
-fn slot_from(t: &[u64; 149], k: usize) -> Slot
+fn slot_from(t: &[u64; WORDS], k: usize) -> Slot
     requires { ⌜ k + 17 ≤ 149 ⌝ }
     ensures { λ r. ⌜ r ≡ slotIn (now (t .entry)) k ⌝ }
 {
@@ -87,7 +88,7 @@ fn slot_from(t: &[u64; 149], k: usize) -> Slot
 }
 
 // A slot's record; a free one, where there is no such slot.
-pub fn slot_at(t: &[u64; 149], i: usize) -> Slot
+pub fn slot_at(t: &[u64; WORDS], i: usize) -> Slot
     ensures { λ r. ⌜ r ≡ getD (tableIn (now (t .entry)) .slots) i freeSlot ⌝ }
 {
     if i < SLOTS {

@@ -10,6 +10,7 @@ ghost use Rattle.reassembly.specs.Slots.{gatesOf, isGate, held, free, idleOther
 ghost use Rattle.words.specs.Words.{nodeIn, sourceIn, tableIn};
 use super::SEATS;
 use super::SLOT_WORDS;
+use super::WORDS;
 use super::read::source_at;
 use reassembly::Key;
 use reassembly::Node;
@@ -17,7 +18,7 @@ use reassembly::Source;
 use reassembly::table::SLOTS;
 
 // Whether the address at a place is this one.
-fn is_node(t: &[u64; 149], k: usize, a: Node) -> bool
+fn is_node(t: &[u64; WORDS], k: usize, a: Node) -> bool
     requires { ⌜ k + 2 ≤ 149 ⌝ }
     ensures { λ r. ⌜ r ≡ sameNode (nodeIn (now (t .entry)) k) a ⌝ }
 {
@@ -25,7 +26,7 @@ fn is_node(t: &[u64; 149], k: usize, a: Node) -> bool
 }
 
 // Whether the sender at a place is this one.
-fn is_source(t: &[u64; 149], k: usize, g: Source) -> bool
+fn is_source(t: &[u64; WORDS], k: usize, g: Source) -> bool
     requires { ⌜ k + 3 ≤ 149 ⌝ }
     ensures { λ r. ⌜ r ≡ sameSource (sourceIn (now (t .entry)) k) g ⌝ }
 {
@@ -34,7 +35,7 @@ fn is_source(t: &[u64; 149], k: usize, g: Source) -> bool
 }
 
 // Whether slot i is open under a key. Size and tag lie in one number and differ most often: they come first.
-fn has_key(t: &[u64; 149], i: usize, key: Key) -> bool
+fn has_key(t: &[u64; WORDS], i: usize, key: Key) -> bool
     requires { ⌜ i < 8 ⌝ }
     ensures { λ r. ⌜ r ≡ isKey key (getD (tableIn (now (t .entry)) .slots) i freeSlot) ⌝ }
 {
@@ -51,7 +52,7 @@ fn has_key(t: &[u64; 149], i: usize, key: Key) -> bool
 }
 
 // The slot that is open under a key, or 8.
-pub fn find(t: &[u64; 149], key: Key) -> usize
+pub fn find(t: &[u64; WORDS], key: Key) -> usize
     ensures { λ r. ⌜ r ≡ firstAt (isKey key) (tableIn (now (t .entry)) .slots) ⌝ }
 {
     let mut i: usize = 0;
@@ -65,7 +66,7 @@ pub fn find(t: &[u64; 149], key: Key) -> usize
 }
 
 // Whether slot i is open under a key of the gateway g.
-fn is_of(t: &[u64; 149], i: usize, g: Source) -> bool
+fn is_of(t: &[u64; WORDS], i: usize, g: Source) -> bool
     requires { ⌜ i < 8 ⌝ }
     ensures { λ r. ⌜ r ≡ isOf g (getD (tableIn (now (t .entry)) .slots) i freeSlot) ⌝ }
 {
@@ -74,7 +75,7 @@ fn is_of(t: &[u64; 149], i: usize, g: Source) -> bool
 }
 
 // How many slots a gateway holds.
-pub fn count_held(t: &[u64; 149], g: Source) -> usize
+pub fn count_held(t: &[u64; WORDS], g: Source) -> usize
     ensures { λ r. ⌜ r ≡ held g (tableIn (now (t .entry)) .slots) ⌝ }
 {
     let mut n: usize = 0;
@@ -88,7 +89,7 @@ pub fn count_held(t: &[u64; 149], g: Source) -> usize
     n
 }
 
-fn is_free(t: &[u64; 149], i: usize) -> bool
+fn is_free(t: &[u64; WORDS], i: usize) -> bool
     requires { ⌜ i < 8 ⌝ }
     ensures { λ r. ⌜ r ≡ isFree (getD (tableIn (now (t .entry)) .slots) i freeSlot) ⌝ }
 {
@@ -97,7 +98,7 @@ fn is_free(t: &[u64; 149], i: usize) -> bool
 }
 
 // How many slots are free.
-pub fn count_free(t: &[u64; 149]) -> usize
+pub fn count_free(t: &[u64; WORDS]) -> usize
     ensures { λ r. ⌜ r ≡ free (tableIn (now (t .entry)) .slots) ⌝ }
 {
     let mut n: usize = 0;
@@ -112,7 +113,7 @@ pub fn count_free(t: &[u64; 149]) -> usize
 }
 
 // The lowest free slot, or 8.
-fn lowest_free(t: &[u64; 149]) -> usize
+fn lowest_free(t: &[u64; WORDS]) -> usize
     ensures { λ r. ⌜ r ≡ firstAt isFree (tableIn (now (t .entry)) .slots) ⌝ }
 {
     let mut i: usize = 0;
@@ -132,7 +133,7 @@ fn is_seat_of(g: Source, a: Source) -> bool
 }
 
 // Whether an address is one of the gateways.
-pub fn is_gateway(t: &[u64; 149], a: Source) -> bool
+pub fn is_gateway(t: &[u64; WORDS], a: Source) -> bool
     ensures { λ r. ⌜ r ≡ isGate a (gatesOf (tableIn (now (t .entry)))) ⌝ }
 {
     let mut i: usize = 0;
@@ -147,13 +148,13 @@ pub fn is_gateway(t: &[u64; 149], a: Source) -> bool
 }
 
 // Whether a seat is that of another gateway than g that holds no slot.
-fn is_idle_other(t: &[u64; 149], h: Source, g: Source) -> bool
+fn is_idle_other(t: &[u64; WORDS], h: Source, g: Source) -> bool
     ensures { λ r. ⌜ r ≡ (present h && (not (sameSource h g) && eqb (held h (tableIn (now (t .entry)) .slots)) 0)) ⌝ }
 {
     h.is_present() && (!h.same(g) && count_held(t, h) == 0)
 }
 
-fn count_idle_others(t: &[u64; 149], g: Source) -> usize
+fn count_idle_others(t: &[u64; WORDS], g: Source) -> usize
     ensures { λ r. ⌜ r ≡ idleOthers g (gatesOf (tableIn (now (t .entry)))) (tableIn (now (t .entry)) .slots) ⌝ }
 {
     let mut n: usize = 0;
@@ -169,7 +170,7 @@ fn count_idle_others(t: &[u64; 149], g: Source) -> usize
 }
 
 // The slot that a gateway may open, or 8.
-pub fn to_open(t: &[u64; 149], g: Source) -> usize
+pub fn to_open(t: &[u64; WORDS], g: Source) -> usize
     ensures { λ r. ⌜ r ≡ opening g (gatesOf (tableIn (now (t .entry)))) (tableIn (now (t .entry)) .slots) ⌝ }
 {
     let h = count_held(t, g);

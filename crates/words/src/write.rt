@@ -29,7 +29,7 @@ fn count_words(t: &[u64]) -> usize
 
 // The proof knows the length of an array behind a reference only where the array is lent as a slice: what stores
 // numbers goes through here, and learns it. No code is left of the count.
-fn put_word(t: &mut [u64; 149], k: usize, v: u64)
+fn put_word(t: &mut [u64; WORDS], k: usize, v: u64)
     requires { ⌜ k < 149 ⌝ }
     ensures { λ _. ⌜ (length (now (t .entry)) ≡ 149) × (now (t .exit) ≡ set (now (t .entry)) k v) ⌝ }
 {
@@ -37,7 +37,7 @@ fn put_word(t: &mut [u64; 149], k: usize, v: u64)
     t[k] = v;
 }
 
-fn put_source(t: &mut [u64; 149], k: usize, s: Source)
+fn put_source(t: &mut [u64; WORDS], k: usize, s: Source)
     requires { ⌜ k + 3 ≤ 149 ⌝ }
     ensures { λ _. ⌜ (length (now (t .entry)) ≡ 149) × (now (t .exit) ≡ put k (sourceWords s) (now (t .entry))) ⌝ }
 {
@@ -47,7 +47,7 @@ fn put_source(t: &mut [u64; 149], k: usize, s: Source)
     t[k + 2] = s.pan;
 }
 
-fn put_four(t: &mut [u64; 149], k: usize, v: [u64; 4])
+fn put_four(t: &mut [u64; WORDS], k: usize, v: [u64; 4])
     requires { ⌜ k + 4 ≤ 149 ⌝ }
     ensures { λ _. ⌜ now (t .exit) ≡ put k (fourIn v 0) (now (t .entry)) ⌝ }
 {
@@ -64,7 +64,7 @@ fn pack(size: u16, tag: u16, ip: u16, udp: u16) -> u64
 }
 
 // What stands between a slot's source and its marks.
-fn put_head(t: &mut [u64; 149], k: usize, s: Slot)
+fn put_head(t: &mut [u64; WORDS], k: usize, s: Slot)
     requires { ⌜ k + 4 ≤ 149 ⌝ }
     ensures { λ _. ⌜ now (t .exit) ≡ put k (headWords s) (now (t .entry)) ⌝ }
 {
@@ -78,7 +78,7 @@ fn put_head(t: &mut [u64; 149], k: usize, s: Slot)
     t[k + 3] = s.since;
 }
 
-fn put_words(t: &mut [u64; 149], k: usize, s: Slot)
+fn put_words(t: &mut [u64; WORDS], k: usize, s: Slot)
     requires { ⌜ k + 17 ≤ 149 ⌝ }
     ensures { λ _. ⌜ (length (now (t .entry)) ≡ 149) × (now (t .exit) ≡ put k (slotWords s) (now (t .entry))) ⌝ }
 {
@@ -96,7 +96,7 @@ fn put_words(t: &mut [u64; 149], k: usize, s: Slot)
 }
 
 // Makes s the record of slot i; nothing is written where there is no such slot.
-pub fn put_slot(t: &mut [u64; 149], i: usize, s: Slot)
+pub fn put_slot(t: &mut [u64; WORDS], i: usize, s: Slot)
     ensures { λ _. ⌜ tableIn (now (t .exit)) ≡ withSlot (tableIn (now (t .entry))) i s ⌝ }
 {
     if i < SLOTS {
@@ -105,7 +105,7 @@ pub fn put_slot(t: &mut [u64; 149], i: usize, s: Slot)
 }
 
 // Frees slot i, where it is 60,000 ms or more past its opening.
-fn age_slot(t: &mut [u64; 149], i: usize, time: u64)
+fn age_slot(t: &mut [u64; WORDS], i: usize, time: u64)
     requires { ⌜ i < 8 ⌝ }
     ensures { λ _. ⌜ tableIn (now (t .exit)) ≡ withSlot (tableIn (now (t .entry))) i
         (expire1 time (getD (tableIn (now (t .entry)) .slots) i freeSlot)) ⌝ }
@@ -119,7 +119,7 @@ fn age_slot(t: &mut [u64; 149], i: usize, time: u64)
 }
 
 // The time is taken, and slots 60,000 ms or more past their opening are freed.
-pub fn age(t: &mut [u64; 149], time: u64)
+pub fn age(t: &mut [u64; WORDS], time: u64)
     ensures { λ _. ⌜ tableIn (now (t .exit)) ≡ withSlots (tableIn (now (t .entry))) time
         (expire time (tableIn (now (t .entry)) .slots)) ⌝ }
 {
@@ -131,7 +131,7 @@ pub fn age(t: &mut [u64; 149], time: u64)
     put_word(t, LAST, time);
 }
 
-fn put_seat(t: &mut [u64; 149], i: usize, s: Source)
+fn put_seat(t: &mut [u64; WORDS], i: usize, s: Source)
     requires { ⌜ i < 4 ⌝ }
     ensures { λ _. ⌜ tableIn (now (t .exit)) ≡ withSeat (tableIn (now (t .entry))) i s ⌝ }
 {
@@ -139,7 +139,7 @@ fn put_seat(t: &mut [u64; 149], i: usize, s: Source)
 }
 
 // Every number 0: the table of free slots that has no gateway.
-fn clear(t: &mut [u64; 149])
+fn clear(t: &mut [u64; WORDS])
     ensures { λ _. ⌜ tableIn (now (t .exit))
         ≡ record { slots = replicate 8 freeSlot; last = 0; gateways = replicate 4 noSource } ⌝ }
 {
@@ -151,7 +151,7 @@ fn clear(t: &mut [u64; 149])
 }
 
 // A table at its beginning, of these seats.
-fn sit(t: &mut [u64; 149], seats: [Source; 4])
+fn sit(t: &mut [u64; WORDS], seats: [Source; 4])
     ensures { λ _. ⌜ tableIn (now (t .exit)) ≡ record { slots = replicate 8 freeSlot; last = 0; gateways = seats } ⌝ }
 {
     clear(t);
@@ -166,7 +166,7 @@ fn sit(t: &mut [u64; 149], seats: [Source; 4])
 }
 
 // A table of the first `count` of these gateways, at its beginning; a refused list, 14, leaves it as it was.
-pub fn begin(t: &mut [u64; 149], gateways: [Gateway; 4], count: usize) -> Listed
+pub fn begin(t: &mut [u64; WORDS], gateways: [Gateway; 4], count: usize) -> Listed
     ensures { λ r. ⌜ Begins r (tableIn (now (t .entry))) (tableIn (now (t .exit))) count gateways ⌝ }
 {
     let s = seat(gateways, count);
