@@ -1,4 +1,4 @@
-// The table of crates/reassembly, in two uses that bench/build compiles: kept by a loop in Rattle, and kept by C behind a
+// The table of crates/words, in two uses that bench/build compiles: kept by a loop in Rattle, and kept by C behind a
 // reference. When the C face has a call of its own, only the second changes.
 #include "bench.h"
 

@@ -73,7 +73,8 @@ fn hear_frames(
     at: usize,
 ) -> Heard
     ensures { λ r. ⌜ Hears r (now (mem .exit)) (now (out .exit)) (now (text .entry)) (now (text .exit)) at
-        (hearFrames (record { ear = standing ear; mem = now (mem .entry); out = now (out .entry) }) (now (block .entry))) ⌝ }
+        (hearFrames (record { ear = standing ear; mem = now (mem .entry); out = now (out .entry) })
+        (now (block .entry))) ⌝ }
 {
     let n = count(block);
     let mut e = ear;
@@ -111,7 +112,8 @@ pub fn hear(
     at: usize,
 ) -> Heard
     ensures { λ r. ⌜ Hears r (now (mem .exit)) (now (out .exit)) (now (text .entry)) (now (text .exit)) at
-        (hearBlock (record { ear = standing ear; mem = now (mem .entry); out = now (out .entry) }) (now (block .entry))) ⌝ }
+        (hearBlock (record { ear = standing ear; mem = now (mem .entry); out = now (out .entry) })
+        (now (block .entry))) ⌝ }
 {
     match judge(block, ear.block) {
         Judged::Good(_) => {
@@ -169,7 +171,8 @@ pub fn hear_all(
     at: usize,
 ) -> Heard
     ensures { λ r. ⌜ Hears r (now (mem .exit)) (now (out .exit)) (now (text .entry)) (now (text .exit)) at
-        (hearAll (record { ear = standing ear; mem = now (mem .entry); out = now (out .entry) }) (now (capture .entry))) ⌝ }
+        (hearAll (record { ear = standing ear; mem = now (mem .entry); out = now (out .entry) })
+        (now (capture .entry))) ⌝ }
 {
     let mut h = Heard {
         ear,

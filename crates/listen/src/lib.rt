@@ -1,8 +1,8 @@
 // Captures heard: what a receiver with the gateways 0001 to 0004 and no contexts makes of the blocks of a capture, as
 // text (the scope document, "Capture blocks and the program").
 //
-// - `ear`: who listens, a table in its numbers and two counts. `Ear::new` begins a capture; `hear` takes a block, `hear_all`
-//   the blocks of a capture or of a part of it, and both put their lines.
+// - `ear`: who listens, a table in its numbers and two counts. `Ear::new` begins a capture; `hear` takes a block,
+//   `hear_all` the blocks of a capture or of a part of it, and both put their lines.
 // - `line`: a line of each kind, put into lent room whole or not at all.
 //
 // specs/Lines.antt has the text of the lines, and specs/Heard.antt what a block and a whole capture say. The answer,
