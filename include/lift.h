@@ -1,7 +1,7 @@
 /* lift.h: the receiver's side of 6LoWPAN for C and C++. IEEE 802.15.4 frames in, whole IPv6 datagrams out.
  *
  * Link with liblift.a, which `rt staticlib lift` writes to target/staticlib/ after it has proved every function in it. The
- * library calls memcpy and nothing else: it does not allocate, block, print, keep state of its own, or use threads.
+ * library calls memcpy and memset and nothing else: it does not allocate, block, print, keep state of its own, or use threads.
  *
  * What is proved, and what is not. A call that keeps the rules below ends, and reads and writes nothing that was not lent.
  * Its answer, the table and every byte that it was lent are, on every frame, exactly what crates/lift/specs/Face.antt
