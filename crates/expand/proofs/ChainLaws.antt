@@ -1,4 +1,4 @@
--- A chain of headers: how far a step reads, the number that stands for it in front, how long the chain gets, and what a walk in code says of it.
+-- A chain of headers: how far a step reads, the number that stands for it in front, and how long the chain gets.
 use Prim.Native.Nat.{ℕ, zero, suc, _+_, _-_, _*_, _/_, _%_, _^_, _≤_, _<_}
 use native.Mathlib.Nat.{add-assoc, zero-add}
 use native.Mathlib.Omega.{arith}
@@ -9,14 +9,8 @@ use lib.ListN.{length, getD, take, drop, length-take, length-drop}
 use lib.Dec.{eqb, ltb, leb}
 use borrow.Author.Tests.{eq-eqb, ne-eqb, eqb-true, eqb-false, leb-true, le-leb, lt-leb}
 use Rattle.octets.specs.Read.{Answer, is, refused, Placed, Read, Reader, got, andThen, choose, branch, give, refuse, byte, be16, skip, _>>=_}
-use Rattle.octets.specs.Refusal.{numberOf}
-use Rattle.octets.specs.Write.{put}
-use Rattle.octets.specs.declared.refusal.Refusal.{Refusal}
-use Rattle.octets.specs.declared.field.WordField.{WordField}
 use Rattle.octets.specs.declared.ipv6.Ipv6Addr.{Ipv6Addr}
 use Rattle.octets.proofs.Spans.{Starts, First, not-refused, starts-then, starts-byte, starts-be16, spans-byte, spans-skip}
-use Rattle.octets.proofs.Puts.{more}
-use Rattle.octets.specs.declared.cursor.Cursor.{Cursor}
 use Rattle.ieee802154.specs.Address.{flip57}
 use Rattle.ieee802154.specs.declared.addr.AddressField.{AddressField}
 use Rattle.sixlowpan.specs.Nhc.{nhcOf, nhc}
@@ -33,25 +27,12 @@ use Rattle.sixlowpan.specs.declared.nhc.ExtHeaderId.the-variants.{HopByHopHeade
 use Rattle.sixlowpan.specs.declared.nhc.ExtHeaderRepr.{ExtHeaderRepr}
 use Rattle.sixlowpan.specs.declared.nhc.UdpNhcRepr.{UdpNhcRepr}
 use Rattle.iphc.specs.Iphc.{linkIid, base, baseOf, behind, iphc}
-use Rattle.iphc.specs.Answers.{ofParsed}
 use Rattle.iphc.specs.declared.header.Repr.{Repr}
-use Rattle.iphc.specs.declared.header.Parsed.{Parsed}
 use Rattle.iphc.proofs.Lengths.{iphc-length}
-use Rattle.expand.specs.Full.{isAbsent, firstWord, ipv6With, udpFull, keep, keptFull}
-use Rattle.expand.specs.Sum.{noSum}
-use Rattle.expand.specs.Chain.{Chain, rest, udpThen, extension, ipv6, Link, udpLink, extLink, innerLink, Around, fullNumber, badLength, octets, extData, extBody, innerByte, extKind, idAt, udpStep, linkOf, link, within, past, inside, identified, behindNext, headerThen, udpEnd, onward, chain, nhcNumber, nextNumber, headNumber, fullSize, extFull, sizeOf, fullBytes, sumFor, sumIn, extOf, ofLink, around, passed, entered, fewer, ofWalked, endOf, Lays, Walks, totalOf, totalIn, ofTotal, kept, ofKept, ending, Measure}
-use Rattle.expand.specs.declared.checksum.UdpSum.{UdpSum}
-use Rattle.expand.specs.declared.ip.Kept.{Kept}
-use Rattle.expand.specs.declared.chain.Extension.{Extension}
-use Rattle.expand.specs.declared.chain.KeptRead.{KeptRead}
-use Rattle.expand.specs.declared.chain.Step.{Step}
-use Rattle.expand.specs.declared.chain.Way.{Way}
-use Rattle.expand.specs.declared.chain.Walked.{Walked}
-use Rattle.expand.specs.declared.chain.TotalAnswer.{TotalAnswer}
+use Rattle.expand.specs.Full.{isAbsent}
+use Rattle.expand.specs.Chain.{Chain, rest, udpThen, extension, ipv6, Link, udpLink, extLink, innerLink, Around, fullNumber, badLength, octets, extData, extBody, innerByte, extKind, idAt, udpStep, linkOf, link, within, past, inside, behindNext, headerThen, udpEnd, onward, chain, nhcNumber, nextNumber, headNumber, fullSize, sizeOf}
+use Rattle.expand.specs.Walk.{identified}
 use Rattle.expand.proofs.Inverting.{invert, got-value, got-next, value-is}
-use Rattle.expand.proofs.CopyLaws.{before}
-use Rattle.expand.proofs.FullLaws.{length-ipv6, length-udp, length-ext, taken-length, kept-full}
-use Rattle.expand.proofs.ExpandLaws.{rest-told}
 
 -- ---- how far a step reads
 abbrev pub Reach : Link → ℕ → ℕ → Type 0
@@ -254,7 +235,7 @@ link-number left s at l n e =
     number-go (i .value) left s at l n (nhc-kind s at (i .value) (i .first)) (i .second)
 
 -- ---- a chain by its first step; m is the chain with one header fewer left
-abbrev shorter : ℕ → List ℕ → Around → Reader Chain
+abbrev pub shorter : ℕ → List ℕ → Around → Reader Chain
 shorter zero ctx = λ v. refuse 3
 shorter (suc left) ctx = chain left ctx
 
@@ -263,7 +244,7 @@ unfolding chain
 chain-is zero ctx w s at = refl
 chain-is (suc left) ctx w s at = refl
 
-shorter-is : (left : ℕ) (ctx : List ℕ) → 1 ≤ left → shorter left ctx ≡ chain (left - 1) ctx
+pub shorter-is : (left : ℕ) (ctx : List ℕ) → 1 ≤ left → shorter left ctx ≡ chain (left - 1) ctx
 shorter-is zero ctx h = absurd (omega arith)
 shorter-is (suc left) ctx h = let e : suc left - 1 ≡ left = omega arith in ap (λ z. chain z ctx) (sym e)
 
@@ -387,281 +368,6 @@ chain-size (suc left) ctx s w at c n e =
 
 pub next-size : (left : ℕ) (ctx s : List ℕ) (w : Around) (next : NextHeader) (at : ℕ) (c : Chain) (n : ℕ) → behindNext next (chain left ctx w) s at ≡ got c n → sizeOf c ≤ 40 * left + 8 + (length s - at)
 next-size left ctx s w next at c n e = behind-size left s (chain left ctx) (chain-size left ctx s) w next at c n e
-
--- ---- the walk in code
--- how long the whole is, where it is not refused
-pub total-value : (size : WordField) (e n t : ℕ) → totalIn size e n ≡ is t → t ≡ totalOf size e
-unfolding totalIn
-total-value size e n t q = go (leb e (totalOf size e)) (leb e n) q
-  where
-    go : (a b : Bool) → choose a (choose b (is (totalOf size e)) (refused 7)) (refused 10) ≡ is t → t ≡ totalOf size e
-    go true true g = sym (value-is _ _ g)
-    go true false g = not-refused _ 7 g
-    go false b g = not-refused _ 10 g
-
-module _ (size : WordField) (e n t : ℕ) (q : t ≡ totalOf size e) where
-  pub total-bad : t < e → refused 10 ≡ totalIn size e n
-  unfolding totalIn
-  total-bad h = rw (lt-leb e (totalOf size e) (subst (λ z. z < e) q h)) refl
-
-  pub total-short : e ≤ t → n < e → refused 7 ≡ totalIn size e n
-  unfolding totalIn
-  total-short h g = rw (le-leb e (totalOf size e) (subst (λ z. e ≤ z) q h), lt-leb e n g) refl
-
-  pub total-good : e ≤ t → e ≤ n → is t ≡ totalIn size e n
-  unfolding totalIn
-  total-good h g = rw (le-leb e (totalOf size e) (subst (λ z. e ≤ z) q h), le-leb e n g) (ap is q)
-
--- the end of a chain c: the last refusals, and then its length
-module _ (w : Way) (l : List ℕ) (c : Chain) (len : ℕ) (i : len ≡ w .at + sizeOf c) (y : TotalAnswer) (p : ofTotal y ≡ totalIn (w .size) len (length l)) where
-  abbrev sum : UdpSum
-  sum = sumIn (w .routed) (w .ip) (w .at) c
-
-  ends-is : (t : ℕ) (u : UdpSum) → y ≡ TotalAnswer.Is t → u ≡ sum → is (record { len = len; sum = u }) ≡ ending w (length l) c
-  ends-is t u g h = subst (λ z. _≡_ {A = Answer Measure} (is (record { len = len; sum = u })) (andThen (totalIn (w .size) z (length l)) (λ x. is (record { len = z; sum = sum })))) i (rw (sym p ∙ ap ofTotal g, h) refl)
-
-  ends-no : (e : Refusal) → y ≡ TotalAnswer.Refused e → refused (numberOf e) ≡ ending w (length l) c
-  ends-no e g = subst (λ z. _≡_ {A = Answer Measure} (refused (numberOf e)) (andThen (totalIn (w .size) z (length l)) (λ x. is (record { len = z; sum = sum })))) i (rw (sym p ∙ ap ofTotal g) refl)
-
--- the payload
-module _ (w : Way) (s l : List ℕ) (at k : ℕ) (y : TotalAnswer) (i : k ≡ length (drop at s)) (q : ofTotal y ≡ totalIn (w .size) (w .at + k) (length l)) (p m : ℕ) where
-  rest-size : w .at + k ≡ w .at + sizeOf (rest p (drop at s))
-  unfolding sizeOf
-  rest-size = ap (λ z. w .at + z) i
-
-  pub walks-rest : (t : ℕ) (n : List ℕ) → y ≡ TotalAnswer.Is t → n ≡ put (w .at) (take (length s) (drop at s)) l → Walks (Walked.End (w .at + k) noSum) w (got (rest p (drop at s)) m) l n
-  unfolding fullBytes sumIn
-  walks-rest t n g b = record { answer = ends-is w l (rest p (drop at s)) (w .at + k) rest-size y q t noSum g refl; bytes = rest-told s l n (w .at) at b }
-
-  pub walks-rest-no : (e : Refusal) → y ≡ TotalAnswer.Refused e → Walks (Walked.Refused e) w (got (rest p (drop at s)) m) l l
-  walks-rest-no e g = record { answer = ends-no w l (rest p (drop at s)) (w .at + k) rest-size y q e g; bytes = refl }
-
--- UDP
-pub walks-unknown : (w : Way) (h : UdpNhcRepr) (s l : List ℕ) (at : ℕ) (t : Bool) → t ≡ (w .routed && isAbsent (h .checksum)) → t ≡ true → Walks (Walked.Refused Refusal.NotExpanded) w (udpEnd (around w) h s at) l l
-unfolding udpEnd
-walks-unknown w h s l at t p q = rw (sym p ∙ q) (record { answer = refl; bytes = refl })
-
-module _ (w : Way) (h : UdpNhcRepr) (s l : List ℕ) (at k : ℕ) (v : Bool) (y : TotalAnswer) (p : v ≡ (w .routed && isAbsent (h .checksum))) (f : v ≡ false) (i : k ≡ length (drop at s)) (q : ofTotal y ≡ totalIn (w .size) (w .at + 8 + k) (length l)) where
-  udp-size : w .at + 8 + k ≡ w .at + sizeOf (udpThen h (drop at s))
-  unfolding sizeOf
-  udp-size = add-assoc (w .at) 8 k ∙ ap (λ z. w .at + (8 + z)) i
-
-  pub walks-udp : (t x : ℕ) (u : UdpSum) (m n : List ℕ) → y ≡ TotalAnswer.Is t → x ≡ t - w .at → m ≡ put (w .at) (udpFull h x) l → n ≡ put (w .at + 8) (take (length s) (drop at s)) m → u ≡ sumFor (w .routed) (w .ip) (w .at) (h .checksum)
-      → Walks (Walked.End (w .at + 8 + k) u) w (udpEnd (around w) h s at) l n
-  unfolding udpEnd fullBytes sumIn
-  walks-udp t x u m n g e a b r =
-      let z : x ≡ totalOf (w .size) (w .at + 8 + k) - w .at = e ∙ ap (λ d. d - w .at) (total-value (w .size) (w .at + 8 + k) (length l) t (sym q ∙ ap ofTotal g)) in
-      let b2 : n ≡ put (w .at + 8) (drop at s) m = rest-told s m n (w .at + 8) at b in
-      let a2 : m ≡ put (w .at) (udpFull h (totalOf (w .size) (w .at + 8 + k) - w .at)) l = a ∙ ap (λ d. put (w .at) (udpFull h d) l) z in
-      rw (sym p ∙ f) (record {
-        answer = ends-is w l (udpThen h (drop at s)) (w .at + 8 + k) udp-size y q t u g r;
-        bytes = more l m n (w .at) 8 (udpFull h (totalOf (w .size) (w .at + 8 + k) - w .at)) (drop at s) (length-udp h (totalOf (w .size) (w .at + 8 + k) - w .at)) a2 b2;
-      })
-
-  pub walks-udp-no : (e : Refusal) → y ≡ TotalAnswer.Refused e → Walks (Walked.Refused e) w (udpEnd (around w) h s at) l l
-  unfolding udpEnd
-  walks-udp-no e g = rw (sym p ∙ f) (record { answer = ends-no w l (udpThen h (drop at s)) (w .at + 8 + k) udp-size y q e g; bytes = refl })
-
--- an extension header, put when what is behind it is there
-ending-ext : (w : Way) (x : ℕ) (d : List ℕ) (c : Chain) (n : ℕ) → ending (passed x (length d) w) n c ≡ ending w n (extension x d c)
-unfolding sizeOf sumIn
-ending-ext w x d c n = ap (λ z. andThen (totalIn (w .size) z n) (λ t. is (record { len = z; sum = sumIn (eqb x 43 || w .routed) (w .ip) (w .at + fullSize (length d)) c }))) (add-assoc (w .at) (fullSize (length d)) (sizeOf c))
-
-walks-ext-go : (len : ℕ) (u : UdpSum) (w : Way) (x y : ℕ) (d : List ℕ) (m : Read Chain) (l n o : List ℕ) → ((c : Chain) (k : ℕ) → m ≡ got c k → y ≡ headNumber c) → Walks (Walked.End len u) (passed x (length d) w) m l n → o ≡ put (w .at) (extFull y d) n
-    → Walks (Walked.End len u) w (andThen m (λ p. got (extension x d (p .value)) (p .next))) l o
-unfolding fullBytes
-walks-ext-go len u w x y d (refused e) l n o f W a = not-refused _ e (sym (W .answer))
-walks-ext-go len u w x y d (is p) l n o f W a =
-    let c = p .value in
-    record {
-      answer = W .answer ∙ ending-ext w x d c (length l);
-      bytes = before l n o (w .at) (fullSize (length d)) (extFull (headNumber c) d) (fullBytes (totalOf (w .size) len) (w .at + fullSize (length d)) c) (length-ext (headNumber c) d) (W .bytes) (a ∙ ap (λ z. put (w .at) (extFull z d) n) (f c (p .next) refl));
-    }
-
-walks-ext-no : (e : Refusal) (w : Way) (x : ℕ) (d : List ℕ) (m : Read Chain) (l n : List ℕ) → Walks (Walked.Refused e) (passed x (length d) w) m l n → Walks (Walked.Refused e) w (andThen m (λ p. got (extension x d (p .value)) (p .next))) l n
-walks-ext-no e w x d (refused k) l n W = record { answer = W .answer; bytes = W .bytes }
-walks-ext-no e w x d (is p) l n W = record { answer = W .answer ∙ ending-ext w x d (p .value) (length l); bytes = W .bytes }
-
--- an IPv6 header likewise
-ending-ipv6 : (w : Way) (h : Repr) (c : Chain) (n : ℕ) → ending (entered (h .«src_addr» .iid) (h .«dst_addr» .iid) w) n c ≡ ending w n (ipv6 h c)
-unfolding sizeOf sumIn
-ending-ipv6 w h c n = ap (λ z. andThen (totalIn (w .size) z n) (λ t. is (record { len = z; sum = sumIn false (w .at) (w .at + 40) c }))) (add-assoc (w .at) 40 (sizeOf c))
-
-walks-ipv6-go : (len : ℕ) (u : UdpSum) (w : Way) (h : Repr) (x y : ℕ) (m : Read Chain) (l n o : List ℕ) → y ≡ totalOf (w .size) len - (w .at + 40) → ((c : Chain) (k : ℕ) → m ≡ got c k → x ≡ headNumber c) → Walks (Walked.End len u) (entered (h .«src_addr» .iid) (h .«dst_addr» .iid) w) m l n → o ≡ put (w .at) (ipv6With h x y) n
-    → Walks (Walked.End len u) w (andThen m (λ p. got (ipv6 h (p .value)) (p .next))) l o
-unfolding fullBytes
-walks-ipv6-go len u w h x y (refused e) l n o q f W a = not-refused _ e (sym (W .answer))
-walks-ipv6-go len u w h x y (is p) l n o q f W a =
-    let c = p .value in
-    let z = totalOf (w .size) len - (w .at + 40) in
-    let a2 : o ≡ put (w .at) (ipv6With h (headNumber c) z) n = a ∙ ap (λ z. put (w .at) (ipv6With h z y) n) (f c (p .next) refl) ∙ ap (λ z. put (w .at) (ipv6With h (headNumber c) z) n) q in
-    record {
-      answer = W .answer ∙ ending-ipv6 w h c (length l);
-      bytes = before l n o (w .at) 40 (ipv6With h (headNumber c) z) (fullBytes (totalOf (w .size) len) (w .at + 40) c) (length-ipv6 h (headNumber c) z) (W .bytes) a2;
-    }
-
-walks-ipv6-no : (e : Refusal) (w : Way) (h : Repr) (m : Read Chain) (l n : List ℕ) → Walks (Walked.Refused e) (entered (h .«src_addr» .iid) (h .«dst_addr» .iid) w) m l n → Walks (Walked.Refused e) w (andThen m (λ p. got (ipv6 h (p .value)) (p .next))) l n
-walks-ipv6-no e w h (refused k) l n W = record { answer = W .answer; bytes = W .bytes }
-walks-ipv6-no e w h (is p) l n W = record { answer = W .answer ∙ ending-ipv6 w h (p .value) (length l); bytes = W .bytes }
-
-fewer-go : (r : Walked) (w : Way) (m : Read Chain) (l n : List ℕ) → Walks r (fewer w) m l n → Walks r w m l n
-fewer-go (Walked.End e u) w (is p) l n W = record { answer = W .answer; bytes = W .bytes }
-fewer-go (Walked.End e u) w (refused k) l n W = record { answer = W .answer; bytes = tt }
-fewer-go (Walked.Refused e) w (is p) l n W = record { answer = W .answer; bytes = W .bytes }
-fewer-go (Walked.Refused e) w (refused k) l n W = record { answer = W .answer; bytes = W .bytes }
-
--- ---- the two functions: one case of the code each
-module _ (w : Way) (ctx s l : List ℕ) (at : ℕ) where
-  abbrev Chains : Walked → NextHeader → List ℕ → Type 0
-  Chains r next o = Walks r w (behindNext next (chain (w .left) ctx (around w)) s at) l o
-
-  pub chain-rest : (r : Walked) (o : List ℕ) (next : NextHeader) (p : IpProtocol) → next ≡ Uncompressed p → ((x n : ℕ) → Walks r w (got (rest x (drop at s)) n) l o) → Chains r next o
-  unfolding behindNext
-  chain-rest r o next p q f = rw q (f (p .0) at)
-
-  -- where a step was read, the chain is what is behind it
-  step-is : (next : NextHeader) (y : Step) (k : Link) (n : ℕ) → next ≡ Compressed → ofLink y s ≡ link (w .left) s at → ofLink y s ≡ got k n → onward ctx (shorter (w .left) ctx) (around w) k s n ≡ behindNext next (chain (w .left) ctx (around w)) s at
-  unfolding behindNext
-  step-is next y k n q p g = rw q (sym (chain-is (w .left) ctx (around w) s at ∙ rw (sym p ∙ g) refl))
-
-  pub chain-refused : (next : NextHeader) (y : Step) (e : Refusal) → next ≡ Compressed → ofLink y s ≡ link (w .left) s at → y ≡ Step.Refused e → Chains (Walked.Refused e) next l
-  unfolding behindNext
-  chain-refused next y e q p g = rw (q, chain-is (w .left) ctx (around w) s at, sym p ∙ ap (λ z. ofLink z s) g) (record { answer = refl; bytes = refl })
-
-  pub chain-udp : (r : Walked) (o : List ℕ) (next : NextHeader) (y : Step) (h : UdpNhcRepr) (n : ℕ) → next ≡ Compressed → ofLink y s ≡ link (w .left) s at → y ≡ Step.Udp h n → Walks r w (udpEnd (around w) h s n) l o → Chains r next o
-  unfolding onward
-  chain-udp r o next y h n q p g W = subst (λ z. Walks r w z l o) (step-is next y (udpLink h) n q p (ap (λ z. ofLink z s) g)) W
-
-  pub chain-inner : (r : Walked) (o : List ℕ) (next : NextHeader) (y : Step) (n : ℕ) (v : Way) → next ≡ Compressed → ofLink y s ≡ link (w .left) s at → y ≡ Step.Inner n → v ≡ fewer w
-      → Walks r v (headerThen ctx (identified (v .src)) (identified (v .dst)) (chain (v .left) ctx) s n) l o → Chains r next o
-  unfolding onward
-  chain-inner r o next y n v q p g i X =
-      let W : Walks r (fewer w) (headerThen ctx (identified (w .src)) (identified (w .dst)) (chain (w .left - 1) ctx) s n) l o = subst (λ z. Walks r z (headerThen ctx (identified (z .src)) (identified (z .dst)) (chain (z .left) ctx) s n) l o) i X in
-      let k : 1 ≤ w .left = link-steps (w .left) s at innerLink n (sym p ∙ ap (λ z. ofLink z s) g) .wants in
-      subst (λ z. Walks r w z l o) (ap (λ z. headerThen ctx (identified (w .src)) (identified (w .dst)) z s n) (sym (shorter-is (w .left) ctx k)) ∙ step-is next y innerLink n q p (ap (λ z. ofLink z s) g))
-      (fewer-go r w (headerThen ctx (identified (w .src)) (identified (w .dst)) (chain (w .left - 1) ctx) s n) l o W)
-
-  pub chain-ext : (r : Walked) (o : List ℕ) (next : NextHeader) (y : Step) (x : Extension) → next ≡ Compressed → ofLink y s ≡ link (w .left) s at → y ≡ Step.Extension x
-      → Walks r w (onward ctx (chain (w .left - 1) ctx) (around w) (extOf x s) s (x .to)) l o → Chains r next o
-  chain-ext r o next y x q p g W =
-      let k : 1 ≤ w .left = link-steps (w .left) s at (extOf x s) (x .to) (sym p ∙ ap (λ z. ofLink z s) g) .wants in
-      subst (λ z. Walks r w z l o) (ap (λ z. onward ctx z (around w) (extOf x s) s (x .to)) (sym (shorter-is (w .left) ctx k)) ∙ step-is next y (extOf x s) (x .to) q p (ap (λ z. ofLink z s) g)) W
-
--- an extension header that ends within the frame
-module _ (w : Way) (ctx s l : List ℕ) (x : Extension) (len : ℕ) (v : Way) (fits : x .to ≤ length s) (e : len ≡ x .to - x .from) (i : v ≡ passed (x .number) len w) where
-  abbrev carried : List ℕ
-  carried = take (x .to - x .from) (drop (x .from) s)
-
-  abbrev rests : Read Chain
-  rests = behindNext (x .next) (chain (w .left - 1) ctx (past (x .number) (around w))) s (x .to)
-
-  abbrev Behind : Walked → List ℕ → Type 0
-  Behind r o = Walks r w (onward ctx (chain (w .left - 1) ctx) (around w) (extOf x s) s (x .to)) l o
-
-  long : len ≡ length carried
-  long = e ∙ sym (taken-length s (x .from) (x .to - x .from) (omega (arith, fits)))
-
-  within-it : (r q : Walked) (n : List ℕ) → Walks r v (behindNext (x .next) (chain (v .left) ctx (around v)) s (x .to)) l n → r ≡ q → Walks q (passed (x .number) (length carried) w) rests l n
-  within-it r q n X j =
-      let Y : Walks q v (behindNext (x .next) (chain (v .left) ctx (around v)) s (x .to)) l n = subst (λ t. Walks t v (behindNext (x .next) (chain (v .left) ctx (around v)) s (x .to)) l n) j X in
-      let W : Walks q (passed (x .number) len w) rests l n = subst (λ z. Walks q z (behindNext (x .next) (chain (z .left) ctx (around z)) s (x .to)) l n) i Y in
-      subst (λ z. Walks q (passed (x .number) z w) rests l n) long W
-
-  pub behind-on : (r : Walked) (k : ℕ) (u : UdpSum) (z : ℕ) (n o : List ℕ) → z ≡ nextNumber (x .next) s (x .to) → Walks r v (behindNext (x .next) (chain (v .left) ctx (around v)) s (x .to)) l n → r ≡ Walked.End k u → o ≡ put (w .at) (extFull z (take len (drop (x .from) s))) n → Behind (Walked.End k u) o
-  unfolding onward
-  behind-on r k u z n o f X j a =
-      walks-ext-go k u w (x .number) z carried rests l n o (λ c j h. f ∙ number-read (x .next) (w .left - 1) ctx (past (x .number) (around w)) s (x .to) c j h) (within-it r (Walked.End k u) n X j) (a ∙ ap (λ t. put (w .at) (extFull z (take t (drop (x .from) s))) n) e)
-
-  pub behind-no : (r : Walked) (d : Refusal) (n : List ℕ) → Walks r v (behindNext (x .next) (chain (v .left) ctx (around v)) s (x .to)) l n → r ≡ Walked.Refused d → Behind (Walked.Refused d) n
-  unfolding onward
-  behind-no r d n X j = walks-ext-no d w (x .number) carried rests l n (within-it r (Walked.Refused d) n X j)
-
--- an IPv6 header, as it is kept
-module _ (ctx s : List ℕ) (ls ld : AddressField) (at : ℕ) (y : Parsed) (p : ofParsed y ≡ iphc ctx ls ld s at) where
-  pub kept-on : (h : Repr) (d : Cursor) (x w : ℕ) → y ≡ Parsed.Header h d → x ≡ nextNumber (h .«next_header») s (d .at) → w ≡ firstWord h
-      → is (record { src = h .«src_addr»; dst = h .«dst_addr»; first = w; number = x; hops = h .«hop_limit»; next = h .«next_header»; at = d .at }) ≡ kept ctx ls ld s at
-  kept-on h d x w g a b = rw (sym p ∙ ap ofParsed g, a, b) refl
-
-  pub kept-no : (e : Refusal) → y ≡ Parsed.Refused e → refused (numberOf e) ≡ kept ctx ls ld s at
-  kept-no e g = rw (sym p ∙ ap ofParsed g) refl
-
-pub record Known (ctx s : List ℕ) (ls ld : AddressField) (at : ℕ) (k : Kept) : Type 0 where
-  pub header : Repr
-  pub place : ℕ
-  pub are-read : iphc ctx ls ld s at ≡ got header place
-  pub is-kept : k ≡ keep header (nextNumber (header .«next_header») s place) place
-
-unread : {A B : Type 0} (m : Answer A) (f : A → B) (n : ℕ) → refused n ≡ andThen m (λ x. is (f x)) → m ≡ refused n
-unread (is x) f n e = not-refused _ n e
-unread (refused k) f n e = cc
-
-module _ (ctx s : List ℕ) (ls ld : AddressField) (at : ℕ) (y : KeptRead) (p : ofKept y ≡ kept ctx ls ld s at) where
-  pub known : (k : Kept) → y ≡ KeptRead.Header k → Known ctx s ls ld at k
-  known k g =
-      let i = invert (iphc ctx ls ld s at) (λ q. is (keep (q .value) (nextNumber (q .value .«next_header») s (q .next)) (q .next))) k (sym p ∙ ap ofKept g) in
-      record { header = i .value .value; place = i .value .next; are-read = i .first; is-kept = sym (value-is _ _ (i .second)) }
-
-  pub unknown : (e : Refusal) → y ≡ KeptRead.Refused e → iphc ctx ls ld s at ≡ refused (numberOf e)
-  unknown e g = unread (iphc ctx ls ld s at) (λ q. keep (q .value) (nextNumber (q .value .«next_header») s (q .next)) (q .next)) (numberOf e) (ap ofKept (sym g) ∙ p)
-
-module _ (w : Way) (ctx s l : List ℕ) (ls ld : AddressField) (at : ℕ) (y : KeptRead) (i : ls ≡ identified (w .src)) (j : ld ≡ identified (w .dst)) (p : ofKept y ≡ kept ctx ls ld s at) where
-  abbrev Headers : Walked → List ℕ → Type 0
-  Headers r o = Walks r w (headerThen ctx (identified (w .src)) (identified (w .dst)) (chain (w .left) ctx) s at) l o
-
-  pub header-refused : (e : Refusal) → y ≡ KeptRead.Refused e → Headers (Walked.Refused e) l
-  unfolding headerThen
-  header-refused e g = rw (← i, ← j, unknown ctx s ls ld at y p e g) (record { answer = refl; bytes = refl })
-
-  module _ (k : Kept) (v : Way) (g : y ≡ KeptRead.Header k) (a : v ≡ entered (k .src .iid) (k .dst .iid) w) where
-    abbrev h : Repr
-    h = known ctx s ls ld at y p k g .header
-
-    abbrev to : ℕ
-    to = known ctx s ls ld at y p k g .place
-
-    abbrev number : ℕ
-    number = nextNumber (h .«next_header») s to
-
-    abbrev behind-it : Read Chain
-    behind-it = behindNext (h .«next_header») (chain (w .left) ctx (within h)) s to
-
-    same : k ≡ keep h number to
-    same = known ctx s ls ld at y p k g .is-kept
-
-    inner : (r q : Walked) (n : List ℕ) → Walks r v (behindNext (k .next) (chain (v .left) ctx (around v)) s (k .at)) l n → r ≡ q → Walks q (entered (h .«src_addr» .iid) (h .«dst_addr» .iid) w) behind-it l n
-    inner r q n X e =
-        let Y : Walks q v (behindNext (k .next) (chain (v .left) ctx (around v)) s (k .at)) l n = subst (λ z. Walks z v (behindNext (k .next) (chain (v .left) ctx (around v)) s (k .at)) l n) e X in
-        let Z : Walks q (entered (k .src .iid) (k .dst .iid) w) (behindNext (k .next) (chain (w .left) ctx (around (entered (k .src .iid) (k .dst .iid) w))) s (k .at)) l n = subst (λ z. Walks q z (behindNext (k .next) (chain (z .left) ctx (around z)) s (k .at)) l n) a Y in
-        subst (λ m. Walks q (entered (h .«src_addr» .iid) (h .«dst_addr» .iid) w) m l n) (next-same (h .«next_header») (w .left) ctx (around (entered (h .«src_addr» .iid) (h .«dst_addr» .iid) w)) (within h) s to refl refl refl)
-        (subst (λ z. Walks q (entered (z .src .iid) (z .dst .iid) w) (behindNext (z .next) (chain (w .left) ctx (around (entered (z .src .iid) (z .dst .iid) w))) s (z .at)) l n) same Z)
-
-    pub header-on : (r : Walked) (len : ℕ) (u : UdpSum) (z : ℕ) (n o : List ℕ) → z ≡ totalOf (w .size) len - (w .at + 40) → Walks r v (behindNext (k .next) (chain (v .left) ctx (around v)) s (k .at)) l n → r ≡ Walked.End len u → o ≡ put (w .at) (keptFull k z) n → Headers (Walked.End len u) o
-    unfolding headerThen
-    header-on r len u z n o e X f b =
-        let b2 : o ≡ put (w .at) (ipv6With h number z) n = b ∙ ap (λ x. put (w .at) (keptFull x z) n) same ∙ ap (λ x. put (w .at) x n) (kept-full h number to z) in
-        rw (← i, ← j, known ctx s ls ld at y p k g .are-read)
-        (walks-ipv6-go len u w h number z behind-it l n o e (λ c m q. number-read (h .«next_header») (w .left) ctx (within h) s to c m q) (inner r (Walked.End len u) n X f) b2)
-
-    pub header-no : (r : Walked) (e : Refusal) (n : List ℕ) → Walks r v (behindNext (k .next) (chain (v .left) ctx (around v)) s (k .at)) l n → r ≡ Walked.Refused e → Headers (Walked.Refused e) n
-    unfolding headerThen
-    header-no r e n X f = rw (← i, ← j, known ctx s ls ld at y p k g .are-read) (walks-ipv6-no e w h behind-it l n (inner r (Walked.Refused e) n X f))
-
--- ---- how far a step in code reads
-pub ext-facts : {y : Step} {x : Extension} (left : ℕ) (s : List ℕ) (at : ℕ) → ofLink y s ≡ link left s at → y ≡ Step.Extension x → (at + 2 + (x .to - x .from) ≤ x .to) × (x .to ≤ length s) × (1 ≤ left)
-ext-facts {x = x} left s at p g =
-    let t = link-steps left s at (extOf x s) (x .to) (sym p ∙ ap (λ z. ofLink z s) g) in
-    let k : length (take (x .to - x .from) (drop (x .from) s)) ≡ x .to - x .from = taken-length s (x .from) (x .to - x .from) (omega (arith, t .ends)) in
-    (omega (arith, t .reach, k), t .ends, t .wants)
-
-pub inner-facts : {y : Step} {n : ℕ} (left : ℕ) (s : List ℕ) (at : ℕ) → ofLink y s ≡ link left s at → y ≡ Step.Inner n → (at < n) × (n ≤ length s) × (1 ≤ left)
-inner-facts {n = n} left s at p g =
-    let t = link-steps left s at innerLink n (sym p ∙ ap (λ z. ofLink z s) g) in
-    (t .reach, t .ends, t .wants)
-
-pub header-facts : {y : KeptRead} {k : Kept} (ctx s : List ℕ) (ls ld : AddressField) (at : ℕ) → ofKept y ≡ kept ctx ls ld s at → y ≡ KeptRead.Header k → (at + 2 ≤ k .at) × (k .at ≤ length s)
-header-facts {y = y} {k = k} ctx s ls ld at p g =
-    let b = known ctx s ls ld at y p k g in
-    subst (λ z. (at + 2 ≤ z .at) × (z .at ≤ length s)) (sym (b .is-kept)) (iphc-reach ctx ls ld s at (b .header) (b .place) (b .are-read))
 
 -- ---- RFC 6282, 3.2.2: the identifier of the address outside, its last 64 bits, whatever they are
 flip-back : (x : ℕ) → flip57 (flip57 x) ≡ x

@@ -27,7 +27,7 @@ use Rattle.expand.proofs.SumLaws.{Bytes}
 use Rattle.expand.proofs.ChecksumLaws.{holds-at}
 use Rattle.expand.proofs.ExpandLaws.{over-is}
 use Rattle.expand.proofs.ChainLaws.{header-size, chain-size}
-use Rattle.expand.proofs.HeadedLaws.{length-full, length-bytes}
+use Rattle.expand.proofs.FillLaws.{length-full, length-bytes}
 
 -- e is what the frame s stands for, and its headers are the chain found
 pub record Made (ctx : List ℕ) (ls ld : AddressField) (size : WordField) (s : List ℕ) (at : ℕ) (e : Expansion) : Type 0 where

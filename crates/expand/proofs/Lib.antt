@@ -5,7 +5,8 @@ pub mod SumLaws
 pub mod FullLaws
 pub mod ExpandLaws
 pub mod ChainLaws
-pub mod HeadedLaws
+pub mod WalkLaws
+pub mod FillLaws
 pub mod ChecksumLaws
 pub mod Unique
 pub mod Labels

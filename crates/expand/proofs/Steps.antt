@@ -28,7 +28,8 @@ use Rattle.sixlowpan.specs.declared.nhc.ExtHeaderId.{ExtHeaderId}
 use Rattle.sixlowpan.specs.declared.nhc.ExtHeaderId.the-variants.{HopByHopHeader, RoutingHeader, FragmentHeader, DestinationOptionsHeader, MobilityHeader, Header, Reserved}
 use Rattle.expand.specs.Full.{isAbsent}
 use Rattle.expand.specs.Sum.{noSum, elidedAt, carriedAt}
-use Rattle.expand.specs.Chain.{Link, extLink, fullNumber, isPadded, badLength, idAt, octets, extKind, extBody, innerByte, udpStep, linkOf, identified, nhcNumber, nextNumber, sumFor, fullSize, passed}
+use Rattle.expand.specs.Chain.{Link, extLink, fullNumber, isPadded, badLength, idAt, octets, extKind, extBody, innerByte, udpStep, linkOf, nhcNumber, nextNumber, sumFor, fullSize}
+use Rattle.expand.specs.Walk.{identified, passed}
 use Rattle.expand.specs.declared.checksum.UdpSum.{UdpSum}
 use Rattle.expand.specs.declared.chain.Way.{Way}
 
@@ -138,5 +139,5 @@ sum-carried t i o c h p q = rw (h, sym p ∙ q) refl
 pub ruleset sums = (sum-routed, sum-elided, sum-carried)
 
 pub past-told : (w : Way) (n len z : ℕ) (t : Bool) → t ≡ (eqb n 43 || w .routed) → z ≡ fullSize len
-    → _≡_ {A = Way} (record { src = w .src; dst = w .dst; routed = t; left = w .left - 1; ip = w .ip; at = w .at + z; size = w .size }) (passed n len w)
+    → _≡_ {A = Way} (record { src = w .src; dst = w .dst; ip = w .ip; at = w .at + z; left = w .left - 1; routed = t }) (passed n len w)
 past-told w n len z t p q = rw (p, q) refl

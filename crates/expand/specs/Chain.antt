@@ -1,14 +1,12 @@
 -- The compressed headers of a frame as a chain (RFC 6282, 3 and 4.2; RFC 8200, 4; the change requests, item 5): header reads chain, chain
 -- reads header. Then what each header becomes.
 use Prim.Native.Nat.{ℕ, zero, suc, _+_, _-_, _*_, _/_, _%_}
-use mathlib.Core.Path.{_≡_}
 use mathlib.Core.List.{List, [], _∷_, _++_}
 use mathlib.Core.Bool.{Bool, true, false, _&&_, _||_, not}
 use lib.ListN.{length, getD, take, drop, replicate}
 use lib.Dec.{eqb, leb}
 use Rattle.octets.specs.Read.{Answer, is, refused, Read, Reader, got, andThen, choose, branch, give, refuse, byte, skip, _>>=_}
-use Rattle.octets.specs.Refusal as Refusal
-use Rattle.octets.specs.Write.{put, byteBytes}
+use Rattle.octets.specs.Write.{byteBytes}
 use Rattle.octets.specs.declared.field.WordField.{WordField}
 use Rattle.octets.specs.declared.ipv6.Ipv6Addr.{Ipv6Addr}
 use Rattle.ieee802154.specs.Address.{flip57}
@@ -28,16 +26,9 @@ use Rattle.sixlowpan.specs.declared.nhc.ExtHeaderId.the-variants.{HopByHopHeade
 use Rattle.sixlowpan.specs.declared.nhc.ExtHeaderRepr.{ExtHeaderRepr}
 use Rattle.sixlowpan.specs.declared.nhc.UdpNhcRepr.{UdpNhcRepr}
 use Rattle.expand.specs.Sum.{noSum, elidedAt, carriedAt}
-use Rattle.expand.specs.Full.{ipv6With, udpFull, isAbsent, keep}
+use Rattle.expand.specs.Full.{ipv6With, udpFull, isAbsent}
 use Rattle.expand.specs.Rfc8200.{Last}
 use Rattle.expand.specs.declared.checksum.UdpSum.{UdpSum}
-use Rattle.expand.specs.declared.ip.Kept.{Kept}
-use Rattle.expand.specs.declared.chain.Extension.{Extension}
-use Rattle.expand.specs.declared.chain.KeptRead.{KeptRead}
-use Rattle.expand.specs.declared.chain.Step.{Step}
-use Rattle.expand.specs.declared.chain.Way.{Way}
-use Rattle.expand.specs.declared.chain.Walked.{Walked}
-use Rattle.expand.specs.declared.chain.TotalAnswer.{TotalAnswer}
 
 -- ---- a chain: headers, and then the rest of the frame
 -- rest: the payload, whose number stood inline; udpThen: a UDP header and its data; extension: the number of an extension header and what follows
@@ -259,55 +250,7 @@ lastOf (udpThen h d) = Last.udp
 lastOf (extension n d c) = lastOf c
 lastOf (ipv6 h c) = lastOf c
 
--- ---- what the contracts say
--- an extension header that was read, and a step of the code, in the frame s
-abbrev pub extOf : Extension → List ℕ → Link
-extOf x s = extLink (x .number) (take (x .to - x .from) (drop (x .from) s)) (x .next)
-
-abbrev pub ofLink : Step → List ℕ → Read Link
-ofLink (Step.Udp h n) s = got (udpLink h) n
-ofLink (Step.Extension x) s = got (extOf x s) (x .to)
-ofLink (Step.Inner n) s = got innerLink n
-ofLink (Step.Refused e) s = refused (Refusal.numberOf e)
-
--- the link-layer address that has an identifier: `inside` of an address that has it
-abbrev pub identified : ℕ → AddressField
-identified i = AddressField.Some (Extended (flip57 i))
-
--- of the addresses outside the code keeps the identifiers: what is inside does not depend on their prefixes (`chain-same`, proofs/ChainLaws.antt)
-abbrev pub around : Way → Around
-around w = record { src = record { prefix = 0; iid = w .src }; dst = record { prefix = 0; iid = w .dst }; routed = w .routed }
-
--- behind an extension header of the number n, with len bytes behind its first two; inside an IPv6 header; and with one header fewer to come
-abbrev pub passed : ℕ → ℕ → Way → Way
-passed n len w = record {
-  src = w .src;
-  dst = w .dst;
-  routed = eqb n 43 || w .routed;
-  left = w .left - 1;
-  ip = w .ip;
-  at = w .at + fullSize len;
-  size = w .size;
-}
-
-abbrev pub entered : ℕ → ℕ → Way → Way
-entered src dst w = record { src = src; dst = dst; routed = false; left = w .left; ip = w .at; at = w .at + 40; size = w .size }
-
--- behind the outer IPv6 header, where seven headers more may come; size: that of the whole datagram where the frame is its first part
-abbrev pub outer : ℕ → ℕ → WordField → Way
-outer src dst size = record { src = src; dst = dst; routed = false; left = 7; ip = 0; at = 40; size = size }
-
-abbrev pub fewer : Way → Way
-fewer w = record { src = w .src; dst = w .dst; routed = w .routed; left = w .left - 1; ip = w .ip; at = w .at; size = w .size }
-
--- an IPv6 header as it is kept
-abbrev pub kept : List ℕ → AddressField → AddressField → List ℕ → ℕ → Answer Kept
-kept ctx ls ld s at = andThen (iphc ctx ls ld s at) (λ p. is (keep (p .value) (nextNumber (p .value .«next_header») s (p .next)) (p .next)))
-
-abbrev pub ofKept : KeptRead → Answer Kept
-ofKept (KeptRead.Header k) = is k
-ofKept (KeptRead.Refused e) = refused (Refusal.numberOf e)
-
+-- ---- how long it gets
 -- how long a datagram gets, or its first part, and what is to be remembered of its checksum
 pub record Measure : Type 0 where
   pub len : ℕ
@@ -322,28 +265,3 @@ totalOf (WordField.Some size) n = size
 -- where the room has too few, n
 unfoldable pub totalIn : WordField → ℕ → ℕ → Answer ℕ
 totalIn size e n = choose (leb e (totalOf size e)) (choose (leb e n) (is (totalOf size e)) (refused 7)) (refused 10)
-
-abbrev pub ofTotal : TotalAnswer → Answer ℕ
-ofTotal (TotalAnswer.Is t) = is t
-ofTotal (TotalAnswer.Refused e) = refused (Refusal.numberOf e)
-
-abbrev pub ofWalked : Walked → Answer Measure
-ofWalked (Walked.End n m) = is (record { len = n; sum = m })
-ofWalked (Walked.Refused e) = refused (Refusal.numberOf e)
-
--- what the chain c comes to in a room of n bytes
-abbrev pub ending : Way → ℕ → Chain → Answer Measure
-ending w n c = andThen (totalIn (w .size) (w .at + sizeOf c) n) (λ t. is (record { len = w .at + sizeOf c; sum = sumIn (w .routed) (w .ip) (w .at) c }))
-
-abbrev pub endOf : Way → ℕ → Read Chain → Answer Measure
-endOf w n m = andThen m (λ p. ending w n (p .value))
-
--- the room l, l₀ before: the bytes of the chain are put at their place, or nothing is
-abbrev pub Lays : Walked → Way → Read Chain → List ℕ → List ℕ → Type 0
-Lays (Walked.End e u) w (is p) l₀ l = l ≡ put (w .at) (fullBytes (totalOf (w .size) e) (w .at) (p .value)) l₀
-Lays (Walked.End e u) w (refused n) l₀ l = Unit {0}
-Lays (Walked.Refused e) w m l₀ l = l ≡ l₀
-
-pub record Walks (r : Walked) (w : Way) (m : Read Chain) (l₀ l : List ℕ) : Type 0 where
-  pub answer : ofWalked r ≡ endOf w (length l₀) m
-  pub bytes : Lays r w m l₀ l

@@ -1,17 +1,17 @@
 -- The datagram that a frame stands for (the scope document, "Expansion and the slot table").
 use Prim.Native.Nat.{ℕ, _+_, _-_}
-use mathlib.Core.List.{List}
+use mathlib.Core.Path.{_≡_}
+use mathlib.Core.List.{List, _++_}
 use mathlib.Core.Bool.{false}
 use lib.Dec.{ltb, leb}
-use lib.ListN.{length}
+use lib.ListN.{length, drop, replicate}
 use Rattle.octets.specs.Read.{Answer, is, refused, andThen, choose}
 use Rattle.octets.specs.Refusal.{numberOf}
 use Rattle.octets.specs.Write.{over}
 use Rattle.octets.specs.declared.field.WordField.{WordField}
 use Rattle.ieee802154.specs.declared.addr.AddressField.{AddressField}
 use Rattle.expand.specs.Sum.{summedBy, summedIn}
-use Rattle.iphc.specs.declared.header.Repr.{Repr}
-use Rattle.expand.specs.Chain.{Chain, ipv6, within, behindNext, chain, chained, sizeOf, fullBytes, sumIn, totalOf, Measure}
+use Rattle.expand.specs.Chain.{Chain, chained, sizeOf, fullBytes, sumIn, totalOf, Measure}
 use Rattle.expand.specs.declared.checksum.UdpSum.{UdpSum}
 use Rattle.expand.specs.declared.datagram.Expanded.{Expanded}
 
@@ -47,10 +47,6 @@ expansion ctx ls ld size s at =
     choose (ltb 127 (length s)) (refused 4)
     (andThen (chained ctx ls ld s at) (λ p. sized size (p .value)))
 
--- from where the outer IPv6 header was read on
-unfoldable pub headed : List ℕ → WordField → Repr → List ℕ → ℕ → Answer Expansion
-headed ctx size h s at = andThen (behindNext (h .«next_header») (chain 7 ctx (within h)) s at) (λ p. sized size (ipv6 h (p .value)))
-
 -- ---- the answers
 abbrev pub ofExpanded : Expanded → Answer Measure
 ofExpanded (Expanded.Datagram n m) = is (record { len = n; sum = m })
@@ -70,3 +66,13 @@ answered m room = andThen m (λ e. choose (leb (length (e .bytes)) (length room)
 abbrev pub written : Answer Expansion → List ℕ → List ℕ
 written (is e) room = over (length (e .bytes)) (e .bytes) room
 written (refused n) room = room
+
+-- the room of `fill` afterwards: the bytes at its front and the rest as it was; or, where anything was refused, every byte 0
+abbrev pub filled : Answer Expansion → List ℕ → List ℕ
+filled (is e) room = choose (leb (length (e .bytes)) (length room)) (e .bytes ++ drop (length (e .bytes)) room) (replicate (length room) 0)
+filled (refused n) room = replicate (length room) 0
+
+-- where it is not refused
+abbrev pub Fills : Expanded → Answer Expansion → List ℕ → List ℕ → Type 0
+Fills (Expanded.Datagram n u) m room l = l ≡ written m room
+Fills (Expanded.Refused e) m room l = Unit {0}

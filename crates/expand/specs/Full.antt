@@ -53,7 +53,7 @@ keep h number at = record {
   number = number;
   hops = h .«hop_limit»;
   next = h .«next_header»;
-  at = at;
+  behind = record { at = at };
 }
 
 unfoldable pub keptFront : Kept → ℕ → List ℕ

@@ -1,18 +1,21 @@
-// The compressed headers behind an IPv6 header, and what each becomes (RFC 6282, 4.2; RFC 8200, 4): header reads chain,
-// chain reads header, each step with fewer bytes left. Nothing is written before the last header is read and all that
-// is refused has been refused; then each header is written, the last one first.
+// The compressed headers of a frame, and what each becomes (RFC 6282, 4.2; RFC 8200, 4): layers of an IPv6 header and
+// the extension headers behind it, then UDP or the payload. Each header is put as it is read; once the length of the
+// whole is known, the payload lengths of the IPv6 headers follow.
 ghost use mathlib.Core.Path.{_≡_};
+ghost use mathlib.Core.List.{List, [], _∷_};
 ghost use mathlib.Core.Bool.{_&&_, _||_};
 ghost use Prim.Native.Nat.{ℕ, _≤_, _<_, _+_, _-_, _*_};
-ghost use lib.ListN.{length, getD, drop};
+ghost use lib.ListN.{length, getD, take, drop};
 ghost use lib.Dec.{eqb};
 ghost use Rattle.octets.specs.Read.{got};
 ghost use Rattle.octets.specs.Write.{put};
 ghost use Rattle.expand.specs.Full.{isAbsent};
 ghost use Rattle.expand.specs.Chain.{fullNumber, isPadded, badLength, fullSize, idAt, extKind, extData, extBody};
-ghost use Rattle.expand.specs.Chain.{innerByte, udpStep, link, identified, headerThen, behindNext, udpEnd, chain};
-ghost use Rattle.expand.specs.Chain.{nextNumber, sumFor, passed, entered, fewer, ofLink, around, rest, totalOf};
-ghost use Rattle.expand.specs.Chain.{totalIn, ofTotal, Walks, onward, extOf, ofKept, kept};
+ghost use Rattle.expand.specs.Chain.{innerByte, udpStep, link, headerThen, behindNext, udpEnd, chain, chained};
+ghost use Rattle.expand.specs.Chain.{nextNumber, sumFor, extFull, rest, totalOf, totalIn};
+ghost use Rattle.expand.specs.Walk.{ofLink, ofKept, kept, ofTotal, extBytes, isCompressed, identified, around};
+ghost use Rattle.expand.specs.Walk.{start, passed, entered, fewer, ahead, Room, NotInner, patches};
+ghost use Rattle.expand.specs.Walk.{Ends, Reaches, Lays};
 use super::checksum::UdpSum;
 use super::copy::left;
 use super::copy::put_slice;
@@ -24,6 +27,7 @@ use super::ip::put_ipv6;
 use super::ip::put_udp;
 use ieee802154::Address;
 use ieee802154::addr::AddressField;
+use iphc::LinkAddresses;
 use iphc::Parsed;
 use iphc::Repr;
 use octets::cursor::ByteRead;
@@ -31,6 +35,7 @@ use octets::cursor::Cursor;
 use octets::cursor::Skipped;
 use octets::field::WordField;
 use octets::refusal::Refusal;
+use octets::write::put_be16;
 use sixlowpan::NextHeader;
 use sixlowpan::nhc::ExtHeaderId;
 use sixlowpan::nhc::ExtHeaderRepr;
@@ -40,35 +45,56 @@ use sixlowpan::nhc::NhcPacket;
 use sixlowpan::nhc::UdpNhcRepr;
 use sixlowpan::nhc::UdpParsed;
 
-// An extension header: its number, its next header field, and where in the frame what follows its first two bytes is.
+// An extension header: where in the frame what follows its first two bytes begins and ends, its number, and its next
+// header field. The places come first here and in `Step`, so that they lie side by side with those of its other cases:
+// the compiler then keeps a step in registers.
 pub struct Extension {
+    pub from: Cursor,
+    pub to: Cursor,
     pub number: u8,
     pub next: NextHeader,
-    pub from: usize,
-    pub to: usize,
 }
 
 // What stands at a place of a chain, and the place behind it: a UDP header; an extension header; or the byte in front
 // of an IPv6 header.
 pub enum Step {
-    Udp(UdpNhcRepr, usize),
+    Udp(Cursor, UdpNhcRepr),
     Extension(Extension),
-    Inner(usize),
+    Inner(Cursor),
     Refused(Refusal),
 }
 
-// How far an expansion has come: the identifiers of the addresses of the IPv6 header just outside, whether a routing
-// header came since, how many headers may still come, and in the datagram where that IPv6 header stands and where the
-// next header goes; `size` is the size of the whole datagram where the frame is its first part. There is one for each
-// header on the stack, so it has nothing that is not read.
+// How far an expansion has come: the identifiers of the addresses of the IPv6 header just outside, where in the
+// datagram that header stands and where the next one goes, how many headers may still come, and whether a routing
+// header came since the IPv6 header.
 pub struct Way {
     pub src: u64,
     pub dst: u64,
-    pub routed: bool,
-    pub left: u8,
     pub ip: u16,
     pub at: u16,
-    pub size: WordField,
+    pub left: u8,
+    pub routed: bool,
+}
+
+// What stands behind extension headers: the payload, whose number stood inline; a UDP header, and its data behind it;
+// an IPv6 header.
+pub enum Last {
+    Rest(Cursor),
+    Udp(Cursor, UdpNhcRepr),
+    Inner(Cursor),
+    Refused(Refusal),
+}
+
+// How far the expansion has come where something else than an extension header stands.
+pub struct Reached {
+    pub way: Way,
+    pub last: Last,
+}
+
+// All headers but UDP's are put, and that many of them are IPv6 headers.
+pub struct Laid {
+    pub reached: Reached,
+    pub count: usize,
 }
 
 // Where the datagram ends, or its first part, and what is to be remembered of its checksum.
@@ -163,7 +189,7 @@ fn read_udp(frame: &[u8], c: Cursor) -> Step
     ensures { λ r. ⌜ ofLink r (now (frame .entry)) ≡ udpStep (now (frame .entry)) (c .at) ⌝ }
 {
     match UdpNhcRepr::read(frame, c) {
-        UdpParsed::Header(h, d) => Step::Udp(h, d.at),
+        UdpParsed::Header(h, d) => Step::Udp(d, h),
         UdpParsed::Refused(e) => Step::Refused(e),
     }
 }
@@ -179,10 +205,10 @@ fn read_data(frame: &[u8], id: ExtHeaderId, h: ExtHeaderRepr, c: Cursor) -> Step
     let number = number_of(id);
     match c.skip(frame, h.length as usize) {
         Skipped::Past(d) => Step::Extension(Extension {
+            from: c,
+            to: d,
             number,
             next,
-            from: c.at,
-            to: d.at,
         }),
         Skipped::Refused(e) => Step::Refused(e),
     }
@@ -204,7 +230,7 @@ fn read_inner(frame: &[u8], c: Cursor) -> Step
     match c.byte(frame) {
         ByteRead::Field(b, d) => {
             if b % 2 == 0 {
-                return Step::Inner(d.at);
+                return Step::Inner(d);
             }
             Step::Refused(Refusal::Unsupported)
         }
@@ -303,17 +329,16 @@ fn total_in(size: WordField, n: u16, room: usize) -> TotalAnswer
 }
 
 // The payload, to the end of the frame.
-fn end_rest(frame: &[u8], at: usize, w: Way, out: &mut [u8]) -> Walked
+fn end_rest(frame: &[u8], c: Cursor, w: Way, size: WordField, out: &mut [u8]) -> Walked
     requires { ⌜ (w .at ≤ 447) × (length (now frame) ≤ 127) ⌝ }
-    ensures { λ r. ⌜ ((p n : ℕ) → Walks r w (got (rest p (drop at (now (frame .entry)))) n) (now (out .entry))
-        (now (out .exit))) ⌝ }
+    ensures { λ r. ⌜ Ends r w size (got (rest 0 (drop (c .at) (now (frame .entry)))) (c .at)) (now (out .entry))
+        (now (out .exit)) ⌝ }
 {
     let o = w.at as usize;
-    let size = w.size;
-    let len = w.at + (left(frame, at) as u16);
+    let len = w.at + (left(frame, c.at) as u16);
     match total_in(size, len, out.len()) {
         TotalAnswer::Is(_) => {
-            put_slice(out, o, frame, at, frame.len());
+            put_slice(out, o, frame, c.at, frame.len());
             let sum = UdpSum::NONE;
             Walked::End { len, sum }
         }
@@ -357,21 +382,28 @@ fn sum_for(w: Way, sum: WordField) -> UdpSum
 }
 
 // A UDP header and its data, to the end of the frame.
-fn end_udp(frame: &[u8], at: usize, h: UdpNhcRepr, w: Way, out: &mut [u8]) -> Walked
+fn end_udp(
+    frame: &[u8],
+    c: Cursor,
+    h: UdpNhcRepr,
+    w: Way,
+    size: WordField,
+    out: &mut [u8],
+) -> Walked
     requires { ⌜ (w .at ≤ 447) × (length (now frame) ≤ 127) ⌝ }
-    ensures { λ r. ⌜ Walks r w (udpEnd (around w) h (now (frame .entry)) at) (now (out .entry)) (now (out .exit)) ⌝ }
+    ensures { λ r. ⌜ Ends r w size (udpEnd (around w) h (now (frame .entry)) (c .at)) (now (out .entry))
+        (now (out .exit)) ⌝ }
 {
     let checksum = h.checksum;
     if is_unknown(w.routed, checksum) {
         return Walked::Refused(Refusal::NotExpanded);
     }
     let o = w.at as usize;
-    let size = w.size;
-    let len = w.at + 8 + (left(frame, at) as u16);
+    let len = w.at + 8 + (left(frame, c.at) as u16);
     match total_in(size, len, out.len()) {
         TotalAnswer::Is(total) => {
             put_udp(out, o, h, less(total, w.at));
-            put_slice(out, o + 8, frame, at, frame.len());
+            put_slice(out, o + 8, frame, c.at, frame.len());
             let sum = sum_for(w, checksum);
             Walked::End { len, sum }
         }
@@ -380,6 +412,16 @@ fn end_udp(frame: &[u8], at: usize, h: UdpNhcRepr, w: Way, out: &mut [u8]) -> Wa
 }
 
 impl Way {
+    // In front of the outer IPv6 header, behind which seven more may come.
+    const START: Way = Way {
+        src: 0,
+        dst: 0,
+        ip: 0,
+        at: 0,
+        left: 7,
+        routed: false,
+    };
+
     // Behind an extension header of a number, with so many bytes behind its first two.
     fn past(self, number: u8, len: usize) -> Way
         requires { ⌜ (self .at + fullSize len ≤ 65535) × (len ≤ 255) × (1 ≤ self .left) ⌝ }
@@ -397,15 +439,13 @@ impl Way {
         requires { ⌜ self .at + 40 ≤ 65535 ⌝ }
         ensures { λ r. ⌜ r ≡ entered src dst self ⌝ }
     {
-        let size = self.size;
         Way {
             src,
             dst,
-            routed: false,
-            left: self.left,
             ip: self.at,
             at: self.at + 40,
-            size,
+            left: self.left,
+            routed: false,
         }
     }
 
@@ -430,17 +470,12 @@ fn is_routed(number: u8, routed: bool) -> bool
     routed
 }
 
-// Reads an IPv6 header. `expand` and `header` both call it, so that what reading takes is not on the stack while the
-// chain is read.
-pub(crate) fn read_kept(
-    frame: &[u8],
-    c: Cursor,
-    src: AddressField,
-    dst: AddressField,
-    contexts: &[u8],
-) -> KeptRead
-    ensures { λ r. ⌜ ofKept r ≡ kept (now (contexts .entry)) src dst (now (frame .entry)) (c .at) ⌝ }
+// Reads an IPv6 header.
+fn read_kept(frame: &[u8], c: Cursor, ll: LinkAddresses, contexts: &[u8]) -> KeptRead
+    ensures { λ r. ⌜ ofKept r ≡ kept (now (contexts .entry)) (ll .src) (ll .dst) (now (frame .entry)) (c .at) ⌝ }
 {
+    let src = ll.src;
+    let dst = ll.dst;
     match Repr::read(frame, c, src, dst, contexts) {
         Parsed::Header(ip, d) => {
             let src = ip.src_addr;
@@ -455,94 +490,212 @@ pub(crate) fn read_kept(
                 number,
                 hops: ip.hop_limit,
                 next,
-                at: d.at,
+                behind: d,
             })
         }
         Parsed::Refused(e) => KeptRead::Refused(e),
     }
 }
 
-// An IPv6 header inside another one, and the chain behind it.
-pub(crate) fn header(frame: &[u8], c: Cursor, contexts: &[u8], w: Way, out: &mut [u8]) -> Walked
-    requires { ⌜ (w .at + 40 * (w .left + 1) + (length (now frame) - c .at) ≤ 447) × (length (now frame) ≤ 127) ⌝ }
-    ensures { λ r. ⌜ Walks r w (headerThen (now (contexts .entry)) (identified (w .src)) (identified (w .dst))
-        (chain (w .left) (now (contexts .entry))) (now (frame .entry)) (c .at)) (now (out .entry)) (now (out .exit)) ⌝ }
+// Puts an extension header; the number of what stands behind it goes into its next header field.
+fn put_read(frame: &[u8], x: Extension, at: u16, out: &mut [u8])
+    requires { ⌜ (at ≤ 447) × (x .to .at ≤ length (now frame)) × (length (now frame) ≤ 127) ⌝ }
+    ensures { λ _. ⌜ now (out .exit) ≡ put at (extFull (nextNumber (x .next) (now (frame .entry)) (x .to .at))
+        (extBytes x (now (frame .entry)))) (now (out .entry)) ⌝ }
 {
-    match read_kept(frame, c, inside(w.src), inside(w.dst), contexts) {
+    let next = x.next;
+    let from = x.from.at;
+    let to = x.to.at;
+    let number = next_number(frame, next, to);
+    put_extension(out, at as usize, number, frame, from, span(from, to));
+}
+
+fn is_compressed(next: NextHeader) -> bool
+    ensures { λ r. ⌜ r ≡ isCompressed next ⌝ }
+{
+    match next {
+        NextHeader::Uncompressed(_) => false,
+        NextHeader::Compressed => true,
+    }
+}
+
+// Puts the extension headers that stand behind a next header field.
+fn put_extensions(
+    frame: &[u8],
+    first: NextHeader,
+    from: Cursor,
+    start: Way,
+    out: &mut [u8],
+) -> Reached
+    requires { ⌜ (start .at + 40 * start .left + (length (now frame) - from .at) ≤ 447) × (length (now frame) ≤ 127) ⌝ }
+    ensures { λ r. ⌜ ((ctx : List ℕ) → Reaches ctx r [] start (behindNext first (chain (start .left) ctx (around start))
+        (now (frame .entry)) (from .at)) (now (frame .entry)) (now (out .entry)) (now (out .exit))) ⌝ }
+{
+    let mut way = start;
+    let mut next = first;
+    let mut c = from;
+    while is_compressed(next) {
+        match read_step(frame, c, way.left) {
+            Step::Extension(x) => {
+                put_read(frame, x, way.at, out);
+                way = way.past(x.number, span(x.from.at, x.to.at));
+                next = x.next;
+                c = x.to;
+            }
+            Step::Udp(d, h) => {
+                let last = Last::Udp(d, h);
+                return Reached { way, last };
+            }
+            Step::Inner(d) => {
+                let last = Last::Inner(d);
+                return Reached { way, last };
+            }
+            Step::Refused(e) => {
+                let last = Last::Refused(e);
+                return Reached { way, last };
+            }
+        }
+    }
+    let last = Last::Rest(c);
+    Reached { way, last }
+}
+
+// Puts an IPv6 header, with 0 for its payload length, and the extension headers behind it.
+fn put_layer(
+    frame: &[u8],
+    c: Cursor,
+    ll: LinkAddresses,
+    contexts: &[u8],
+    w: Way,
+    out: &mut [u8],
+) -> Reached
+    requires { ⌜ (w .at + 40 * (w .left + 1) + (length (now frame) - c .at) ≤ 447) × (length (now frame) ≤ 127) ⌝ }
+    ensures { λ r. ⌜ Reaches (now (contexts .entry)) r (w .at ∷ []) w (headerThen (now (contexts .entry)) (ll .src)
+        (ll .dst) (chain (w .left) (now (contexts .entry))) (now (frame .entry)) (c .at)) (now (frame .entry))
+        (now (out .entry)) (now (out .exit)) ⌝ }
+{
+    match read_kept(frame, c, ll, contexts) {
         KeptRead::Header(ip) => {
             let src = ip.src;
             let dst = ip.dst;
             let next = ip.next;
-            let o = w.at;
-            let size = w.size;
-            match chain(
-                frame,
-                next,
-                Cursor { at: ip.at },
-                contexts,
-                w.within(src.iid, dst.iid),
-                out,
-            ) {
-                Walked::End { len, sum } => {
-                    put_ipv6(out, o as usize, ip, less(total_of(size, len), o + 40));
-                    Walked::End { len, sum }
-                }
-                Walked::Refused(e) => Walked::Refused(e),
-            }
+            let behind = ip.behind;
+            put_ipv6(out, w.at as usize, ip, 0);
+            put_extensions(frame, next, behind, w.within(src.iid, dst.iid), out)
         }
-        KeptRead::Refused(e) => Walked::Refused(e),
+        KeptRead::Refused(e) => {
+            let way = w;
+            let last = Last::Refused(e);
+            Reached { way, last }
+        }
     }
 }
 
-// An extension header, and the chain behind it. It is a function of its own, as `header` is, so that the two share
-// their place on the stack in each round of `chain`.
-fn behind(frame: &[u8], x: Extension, contexts: &[u8], w: Way, out: &mut [u8]) -> Walked
-    requires { ⌜ (w .at + 40 * w .left + (x .to - x .from) + (length (now frame) - x .to) ≤ 447) × (1 ≤ w .left)
-        × (x .to ≤ length (now frame)) × (length (now frame) ≤ 127) ⌝ }
-    ensures { λ r. ⌜ Walks r w (onward (now (contexts .entry)) (chain (w .left - 1) (now (contexts .entry))) (around w)
-        (extOf x (now (frame .entry))) (now (frame .entry)) (x .to)) (now (out .entry)) (now (out .exit)) ⌝ }
+// The link-layer addresses that stand for those of the IPv6 header just outside.
+fn links_inside(w: Way) -> LinkAddresses
+    ensures { λ r. ⌜ r ≡ record { src = identified (w .src); dst = identified (w .dst) } ⌝ }
 {
-    let next = x.next;
-    let o = w.at;
-    let n = span(x.from, x.to);
-    match chain(
-        frame,
-        next,
-        Cursor { at: x.to },
-        contexts,
-        w.past(x.number, n),
-        out,
-    ) {
+    let src = inside(w.src);
+    let dst = inside(w.dst);
+    LinkAddresses { src, dst }
+}
+
+// Puts all headers but UDP's, and notes where the IPv6 headers stand.
+fn put_headers(
+    frame: &[u8],
+    from: Cursor,
+    links: LinkAddresses,
+    contexts: &[u8],
+    places: &mut [u16],
+    out: &mut [u8],
+) -> Laid
+    requires { ⌜ (length (now frame) ≤ 127) × (length (now places) ≡ 8) ⌝ }
+    ensures { λ r. ⌜ Lays (now (contexts .entry)) r (chained (now (contexts .entry)) (links .src) (links .dst)
+        (now (frame .entry)) (from .at)) (now (frame .entry)) (now (places .exit)) (now (out .entry))
+        (now (out .exit)) ⌝ }
+{
+    let mut way = Way::START;
+    let mut c = from;
+    let mut ll = links;
+    let mut count: usize = 0;
+    while count < 8 {
+        places[count] = way.at;
+        count = count + 1;
+        let reached = put_layer(frame, c, ll, contexts, way, out);
+        let last = reached.last;
+        match last {
+            Last::Inner(d) => {
+                let w = reached.way;
+                way = w.fewer();
+                ll = links_inside(w);
+                c = d;
+            }
+            Last::Rest(_) => {
+                return Laid { reached, count };
+            }
+            Last::Udp(_, _) => {
+                return Laid { reached, count };
+            }
+            Last::Refused(_) => {
+                return Laid { reached, count };
+            }
+        }
+    }
+    let last = Last::Refused(Refusal::Unsupported);
+    let reached = Reached { way, last };
+    Laid { reached, count }
+}
+
+// What stands behind all other headers.
+fn put_last(frame: &[u8], r: Reached, size: WordField, out: &mut [u8]) -> Walked
+    requires { ⌜ Room (r .way) (r .last) (now frame) × (NotInner (r .last) × (length (now frame) ≤ 127)) ⌝ }
+    ensures { λ z. ⌜ ((ctx : List ℕ) → Ends z (r .way) size (ahead ctx r (now (frame .entry))) (now (out .entry))
+        (now (out .exit))) ⌝ }
+{
+    let way = r.way;
+    let last = r.last;
+    match last {
+        Last::Rest(c) => end_rest(frame, c, way, size, out),
+        Last::Udp(c, h) => end_udp(frame, c, h, way, size, out),
+        Last::Inner(_) => Walked::Refused(Refusal::Unsupported),
+        Last::Refused(e) => Walked::Refused(e),
+    }
+}
+
+// The payload lengths of the IPv6 headers at so many places: all that follows, in a datagram of a length.
+fn put_lengths(places: &[u16], count: usize, total: u16, out: &mut [u8])
+    requires { ⌜ (count ≤ length (now places)) × ((i : ℕ) → i < count → getD (now places) i 0 ≤ 447) ⌝ }
+    ensures { λ _. ⌜ now (out .exit) ≡ patches total (take count (now (places .entry))) (now (out .entry)) ⌝ }
+{
+    let mut i = count;
+    while 0 < i {
+        i = i - 1;
+        let o = places[i];
+        put_be16(out, (o as usize) + 4, less(total, o + 40));
+    }
+}
+
+// The datagram that the frame stands for, from its outer IPv6 header on, or its first part.
+pub(crate) fn walk(
+    frame: &[u8],
+    c: Cursor,
+    ll: LinkAddresses,
+    contexts: &[u8],
+    size: WordField,
+    out: &mut [u8],
+) -> Walked
+    requires { ⌜ length (now frame) ≤ 127 ⌝ }
+    ensures { λ r. ⌜ Ends r start size (chained (now (contexts .entry)) (ll .src) (ll .dst) (now (frame .entry))
+        (c .at)) (now (out .entry)) (now (out .exit)) ⌝ }
+{
+    let mut places = [0u16; 8];
+    let laid = put_headers(frame, c, ll, contexts, &mut places, out);
+    let reached = laid.reached;
+    match put_last(frame, reached, size, out) {
         Walked::End { len, sum } => {
-            let number = next_number(frame, next, x.to);
-            put_extension(out, o as usize, number, frame, x.from, n);
+            put_lengths(&places, laid.count, total_of(size, len), out);
             Walked::End { len, sum }
         }
         Walked::Refused(e) => Walked::Refused(e),
-    }
-}
-
-// What follows a next header field at a place of the frame: the payload, where it stood inline; else a compressed
-// header, and what follows that.
-pub(crate) fn chain(
-    frame: &[u8],
-    next: NextHeader,
-    c: Cursor,
-    contexts: &[u8],
-    w: Way,
-    out: &mut [u8],
-) -> Walked
-    requires { ⌜ (w .at + 40 * w .left + (length (now frame) - c .at) ≤ 447) × (length (now frame) ≤ 127) ⌝ }
-    ensures { λ r. ⌜ Walks r w (behindNext next (chain (w .left) (now (contexts .entry)) (around w))
-        (now (frame .entry)) (c .at)) (now (out .entry)) (now (out .exit)) ⌝ }
-{
-    match next {
-        NextHeader::Uncompressed(_) => end_rest(frame, c.at, w, out),
-        NextHeader::Compressed => match read_step(frame, c, w.left) {
-            Step::Udp(h, n) => end_udp(frame, n, h, w, out),
-            Step::Extension(x) => behind(frame, x, contexts, w, out),
-            Step::Inner(n) => header(frame, Cursor { at: n }, contexts, w.fewer(), out),
-            Step::Refused(e) => Walked::Refused(e),
-        },
     }
 }

@@ -1,24 +1,13 @@
 // The datagram that a frame stands for.
 ghost use mathlib.Core.Path.{_≡_};
-ghost use Prim.Native.Nat.{ℕ, _≤_, _+_};
-ghost use lib.ListN.{length};
-ghost use Rattle.expand.specs.Sum.{summedIn};
-ghost use Rattle.expand.specs.Expand.{ofExpanded, finishedIn, headed, expansion, measured, answered};
-ghost use Rattle.expand.specs.Expand.{written};
-ghost use Rattle.expand.specs.Full.{keep};
-ghost use Rattle.expand.specs.Chain.{nextNumber};
-ghost use Rattle.iphc.specs.declared.header.Repr.{Repr};
-use super::chain::KeptRead;
+ghost use Rattle.expand.specs.Expand.{ofExpanded, finishedIn, expansion, measured, answered, written};
+ghost use Rattle.expand.specs.Expand.{Fills, filled};
 use super::chain::Walked;
-use super::chain::Way;
-use super::chain::chain;
-use super::chain::less;
-use super::chain::read_kept;
-use super::chain::total_of;
+use super::chain::walk;
 use super::checksum::UdpSum;
 use super::checksum::put_checksum;
-use super::ip::Kept;
-use super::ip::put_ipv6;
+use super::copy::clear;
+use super::copy::put_slice;
 use iphc::LinkAddresses;
 use octets::cursor::Cursor;
 use octets::field::WordField;
@@ -45,40 +34,54 @@ fn put_elided(buf: &mut [u8], size: WordField, n: usize, m: UdpSum)
     }
 }
 
-// Writes the datagram whose IPv6 header was read: at most seven headers more, and then that one.
-fn expand_headed(
+// The headers of a frame in full, each written as it is read, and the rest.
+fn fill_from(
     frame: &[u8],
-    ip: Kept,
+    c: Cursor,
+    ll: LinkAddresses,
     contexts: &[u8],
     size: WordField,
-    out: &mut [u8],
+    room: &mut [u8],
 ) -> Expanded
-    requires { ⌜ length (now frame) ≤ 127 ⌝ }
-    ensures { λ r. ⌜ ((h : Repr) (at : ℕ) → ip ≡ keep h (nextNumber (h .«next_header») (now (frame .entry)) at) at
-        → (ofExpanded r ≡ answered (headed (now (contexts .entry)) size h (now (frame .entry)) at) (now (out .entry)))
-        × (now (out .exit) ≡ written (headed (now (contexts .entry)) size h (now (frame .entry)) at)
-        (now (out .entry)))) ⌝ }
+    ensures { λ r. ⌜ (ofExpanded r ≡ answered (expansion (now (contexts .entry)) (ll .src) (ll .dst) size
+        (now (frame .entry)) (c .at)) (now (room .entry)))
+        × Fills r (expansion (now (contexts .entry)) (ll .src) (ll .dst) size (now (frame .entry)) (c .at))
+        (now (room .entry)) (now (room .exit)) ⌝ }
 {
-    let next = ip.next;
-    let src = ip.src;
-    let dst = ip.dst;
-    let w = Way {
-        src: src.iid,
-        dst: dst.iid,
-        routed: false,
-        left: 7,
-        ip: 0,
-        at: 40,
-        size,
-    };
-    match chain(frame, next, Cursor { at: ip.at }, contexts, w, out) {
+    if 127 < frame.len() {
+        return Expanded::Refused(Refusal::BadLength);
+    }
+    match walk(frame, c, ll, contexts, size, room) {
         Walked::End { len, sum } => {
-            put_ipv6(out, 0, ip, less(total_of(size, len), 40));
             let len = len as usize;
-            put_elided(out, size, len, sum);
+            put_elided(room, size, len, sum);
             Expanded::Datagram { len, sum }
         }
         Walked::Refused(e) => Expanded::Refused(e),
+    }
+}
+
+// Writes the datagram that the frame stands for into the front of a room of its own, which a refusal leaves all zeros:
+// headers are written as they are read, before it is known whether what follows is refused.
+pub fn fill(
+    frame: &[u8],
+    c: Cursor,
+    ll: LinkAddresses,
+    contexts: &[u8],
+    size: WordField,
+    room: &mut [u8],
+) -> Expanded
+    ensures { λ r. ⌜ (ofExpanded r ≡ answered (expansion (now (contexts .entry)) (ll .src) (ll .dst) size
+        (now (frame .entry)) (c .at)) (now (room .entry)))
+        × (now (room .exit) ≡ filled (expansion (now (contexts .entry)) (ll .src) (ll .dst) size (now (frame .entry))
+        (c .at)) (now (room .entry))) ⌝ }
+{
+    match fill_from(frame, c, ll, contexts, size, room) {
+        Expanded::Datagram { len, sum } => Expanded::Datagram { len, sum },
+        Expanded::Refused(e) => {
+            clear(room);
+            Expanded::Refused(e)
+        }
     }
 }
 
@@ -96,14 +99,16 @@ pub fn expand(
         × (now (out .exit) ≡ written (expansion (now (contexts .entry)) (ll .src) (ll .dst) size (now (frame .entry))
         (c .at)) (now (out .entry))) ⌝ }
 {
-    if 127 < frame.len() {
-        return Expanded::Refused(Refusal::BadLength);
-    }
-    let src = ll.src;
-    let dst = ll.dst;
-    match read_kept(frame, c, src, dst, contexts) {
-        KeptRead::Header(ip) => expand_headed(frame, ip, contexts, size, out),
-        KeptRead::Refused(e) => Expanded::Refused(e),
+    let mut room = [0u8; LONGEST];
+    match fill(frame, c, ll, contexts, size, &mut room) {
+        Expanded::Datagram { len, sum } => {
+            if out.len() < len {
+                return Expanded::Refused(Refusal::NoRoom);
+            }
+            put_slice(out, 0, &room, 0, len);
+            Expanded::Datagram { len, sum }
+        }
+        Expanded::Refused(e) => Expanded::Refused(e),
     }
 }
 
@@ -121,5 +126,5 @@ pub fn measure(
         (now (frame .entry)) (c .at)) ⌝ }
 {
     let mut room = [0u8; LONGEST];
-    expand(frame, c, ll, contexts, size, &mut room)
+    fill(frame, c, ll, contexts, size, &mut room)
 }

@@ -9,6 +9,7 @@ ghost use Rattle.expand.specs.Chain.{pad, fullSize, extFull};
 use super::copy::put_slice;
 use iphc::LabelField;
 use iphc::Repr;
+use octets::cursor::Cursor;
 use octets::field::ByteField;
 use octets::field::WordField;
 use octets::ipv6::Ipv6Addr;
@@ -19,8 +20,8 @@ use octets::write::put_byte;
 use sixlowpan::NextHeader;
 use sixlowpan::nhc::UdpNhcRepr;
 
-// What is kept of an IPv6 header while what is behind it is read: what is written of it, which its payload length is
-// left out of; its next header field, and the place behind it. There is one for each IPv6 header on the stack.
+// What is kept of an IPv6 header: what is written of it, which its payload length is left out of; its next header field,
+// and the place behind it.
 pub struct Kept {
     pub src: Ipv6Addr,
     pub dst: Ipv6Addr,
@@ -28,7 +29,7 @@ pub struct Kept {
     pub number: u8,
     pub hops: u8,
     pub next: NextHeader,
-    pub at: usize,
+    pub behind: Cursor,
 }
 
 // An absent field is 0.

@@ -17,4 +17,5 @@ mod ip;
 pub use datagram::Expanded;
 pub use datagram::LONGEST;
 pub use datagram::expand;
+pub use datagram::fill;
 pub use datagram::measure;

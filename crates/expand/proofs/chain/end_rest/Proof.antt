@@ -1,4 +1,4 @@
-use Rattle.expand.proofs.ChainLaws.{walks-rest, walks-rest-no}
+use Rattle.expand.proofs.WalkLaws.{ends-rest, ends-rest-no}
 use native.Mathlib.Omega.{arith}
 use lib.ListN.{length-drop}
 use denote.Ref.{now}
@@ -13,10 +13,10 @@ left-requires : tie.Need-left-requires
 left-requires c κs = search needs
 
 cast-len : tie.Need-cast-len
-cast-len c = omega (arith, c .left .ensures, length-drop (c .before .before .before .before .args .at) (now (c .before .before .before .before .args .frame)), c .before .before .before .before .pre .1)
+cast-len c = omega (arith, c .left .ensures, length-drop (c .before .before .before .before .args .c .at) (now (c .before .before .before .before .args .frame)), c .before .before .before .before .pre .1)
 
 add-len : tie.Need-add-len
-add-len c = omega (arith, c .before .left .ensures, length-drop (c .before .before .before .before .before .args .at) (now (c .before .before .before .before .before .args .frame)), c .before .before .before .before .before .pre .0, c .before .before .before .before .before .pre .1)
+add-len c = omega (arith, c .before .left .ensures, length-drop (c .before .before .before .before .before .args .c .at) (now (c .before .before .before .before .before .args .frame)), c .before .before .before .before .before .pre .0, c .before .before .before .before .before .pre .1)
 
 total-in-requires : tie.Need-total-in-requires
 total-in-requires c κs = search needs
@@ -34,10 +34,10 @@ same-length : tie.Need-same-length
 same-length c = search needs
 
 returns : tie.Need-returns
-returns c = λ p m. walks-rest (c .before .before .before .before .before .before .before .before .before .before .before .before .args .w) (now (c .before .before .before .before .before .before .before .before .before .before .before .before .args .frame)) (now (c .before .before .before .before .before .before .before .before .before .before .before .before .args .out)) (c .before .before .before .before .before .before .before .before .before .before .before .before .args .at) _ _ (c .before .before .before .before .before .before .before .before .left .ensures) (c .before .before .before .before .before .before .total-in .ensures) p m _ _ (c .before .before .before .before .enum-told .given .1) (c .before .before .put-slice .ensures)
+returns c = ends-rest (c .before .before .before .before .before .before .before .before .before .before .before .before .args .size) (c .before .before .before .before .before .before .before .before .before .before .before .before .args .w) (now (c .before .before .before .before .before .before .before .before .before .before .before .before .args .frame)) (now (c .before .before .before .before .before .before .before .before .before .before .before .before .args .out)) (c .before .before .before .before .before .before .before .before .before .before .before .before .args .c .at) _ _ (c .before .before .before .before .before .before .before .before .left .ensures) (c .before .before .before .before .before .before .total-in .ensures) _ _ (c .before .before .before .before .enum-told .given .1) (c .before .before .put-slice .ensures)
 
 returns-2 : tie.Need-returns-2
-returns-2 c = λ p m. walks-rest-no (c .before .before .before .before .before .before .before .before .before .args .w) (now (c .before .before .before .before .before .before .before .before .before .args .frame)) (now (c .before .before .before .before .before .before .before .before .before .args .out)) (c .before .before .before .before .before .before .before .before .before .args .at) _ _ (c .before .before .before .before .before .left .ensures) (c .before .before .before .total-in .ensures) p m _ (c .before .e .given .1)
+returns-2 c = ends-rest-no (c .before .before .before .before .before .before .before .before .before .args .size) (c .before .before .before .before .before .before .before .before .before .args .w) (now (c .before .before .before .before .before .before .before .before .before .args .frame)) (now (c .before .before .before .before .before .before .before .before .before .args .out)) (c .before .before .before .before .before .before .before .before .before .args .c .at) _ _ (c .before .before .before .before .before .left .ensures) (c .before .before .before .total-in .ensures) _ (c .before .e .given .1)
 
 pub end-rest-spec : {M : Type 1} → statement M
 end-rest-spec =

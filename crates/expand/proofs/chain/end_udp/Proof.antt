@@ -1,4 +1,4 @@
-use Rattle.expand.proofs.ChainLaws.{walks-unknown, walks-udp, walks-udp-no}
+use Rattle.expand.proofs.WalkLaws.{ends-unknown, ends-udp, ends-udp-no}
 use native.Mathlib.Omega.{arith}
 use lib.ListN.{length-drop}
 use denote.Ref.{now}
@@ -10,7 +10,7 @@ is-unknown-requires : tie.Need-is-unknown-requires
 is-unknown-requires c κs = search needs
 
 returns : tie.Need-returns
-returns c = walks-unknown (c .before .before .before .before .args .w) (c .before .before .before .before .args .h) (now (c .before .before .before .before .args .frame)) (now (c .before .before .before .before .args .out)) (c .before .before .before .before .args .at) _ (c .before .is-unknown .ensures) (c .if1 .taken)
+returns c = ends-unknown (c .before .before .before .before .args .size) (c .before .before .before .before .args .w) (c .before .before .before .before .args .h) (now (c .before .before .before .before .args .frame)) (now (c .before .before .before .before .args .out)) (c .before .before .before .before .args .c .at) _ (c .before .is-unknown .ensures) (c .if1 .taken)
 
 cast-o : tie.Need-cast-o
 cast-o c = search needs
@@ -22,10 +22,10 @@ left-requires : tie.Need-left-requires
 left-requires c κs = search needs
 
 cast-len : tie.Need-cast-len
-cast-len c = omega (arith, c .left .ensures, length-drop (c .before .before .before .before .before .before .before .args .at) (now (c .before .before .before .before .before .before .before .args .frame)), c .before .before .before .before .before .before .before .pre .1)
+cast-len c = omega (arith, c .left .ensures, length-drop (c .before .before .before .before .before .before .before .args .c .at) (now (c .before .before .before .before .before .before .before .args .frame)), c .before .before .before .before .before .before .before .pre .1)
 
 add-len-2 : tie.Need-add-len-2
-add-len-2 c = omega (arith, c .left .ensures, length-drop (c .before .before .before .before .before .before .before .args .at) (now (c .before .before .before .before .before .before .before .args .frame)), c .before .before .before .before .before .before .before .pre .0, c .before .before .before .before .before .before .before .pre .1)
+add-len-2 c = omega (arith, c .left .ensures, length-drop (c .before .before .before .before .before .before .before .args .c .at) (now (c .before .before .before .before .before .before .before .args .frame)), c .before .before .before .before .before .before .before .pre .0, c .before .before .before .before .before .before .before .pre .1)
 
 total-in-requires : tie.Need-total-in-requires
 total-in-requires c κs = search needs
@@ -55,10 +55,10 @@ same-length : tie.Need-same-length
 same-length c = search needs
 
 returns-2 : tie.Need-returns-2
-returns-2 c = walks-udp (c .before .before .before .before .before .before .before .before .before .before .before .before .before .before .before .before .before .before .before .before .before .args .w) (c .before .before .before .before .before .before .before .before .before .before .before .before .before .before .before .before .before .before .before .before .before .args .h) (now (c .before .before .before .before .before .before .before .before .before .before .before .before .before .before .before .before .before .before .before .before .before .args .frame)) (now (c .before .before .before .before .before .before .before .before .before .before .before .before .before .before .before .before .before .before .before .before .before .args .out)) (c .before .before .before .before .before .before .before .before .before .before .before .before .before .before .before .before .before .before .before .before .before .args .at) _ _ _ (c .before .before .before .before .before .before .before .before .before .before .before .before .before .before .before .before .before .before .is-unknown .ensures) (c .before .before .before .before .before .before .before .before .before .before .before .before .before .before .before .before .before .if1 .left) (c .before .before .before .before .before .before .before .before .before .before .before .before .before .before .left .ensures) (c .before .before .before .before .before .before .before .before .before .before .before .before .before .total-in .ensures) _ _ _ _ _ (c .before .before .before .before .before .before .before .before .before .before .before .total .given .1) (c .before .before .before .before .before .before .before .before .less .ensures) (c .before .before .before .before .before .before .before .put-udp .ensures) (c .before .before .before .put-slice .ensures) (c .sum-for .ensures)
+returns-2 c = ends-udp (c .before .before .before .before .before .before .before .before .before .before .before .before .before .before .before .before .before .before .before .before .before .args .size) (c .before .before .before .before .before .before .before .before .before .before .before .before .before .before .before .before .before .before .before .before .before .args .w) (c .before .before .before .before .before .before .before .before .before .before .before .before .before .before .before .before .before .before .before .before .before .args .h) (now (c .before .before .before .before .before .before .before .before .before .before .before .before .before .before .before .before .before .before .before .before .before .args .frame)) (now (c .before .before .before .before .before .before .before .before .before .before .before .before .before .before .before .before .before .before .before .before .before .args .out)) (c .before .before .before .before .before .before .before .before .before .before .before .before .before .before .before .before .before .before .before .before .before .args .c .at) _ _ _ (c .before .before .before .before .before .before .before .before .before .before .before .before .before .before .before .before .before .before .is-unknown .ensures) (c .before .before .before .before .before .before .before .before .before .before .before .before .before .before .before .before .before .if1 .left) (c .before .before .before .before .before .before .before .before .before .before .before .before .before .before .left .ensures) (c .before .before .before .before .before .before .before .before .before .before .before .before .before .total-in .ensures) _ _ _ _ _ (c .before .before .before .before .before .before .before .before .before .before .before .total .given .1) (c .before .before .before .before .before .before .before .before .less .ensures) (c .before .before .before .before .before .before .before .put-udp .ensures) (c .before .before .before .put-slice .ensures) (c .sum-for .ensures)
 
 returns-3 : tie.Need-returns-3
-returns-3 c = walks-udp-no (c .before .before .before .before .before .before .before .before .before .before .before .args .w) (c .before .before .before .before .before .before .before .before .before .before .before .args .h) (now (c .before .before .before .before .before .before .before .before .before .before .before .args .frame)) (now (c .before .before .before .before .before .before .before .before .before .before .before .args .out)) (c .before .before .before .before .before .before .before .before .before .before .before .args .at) _ _ _ (c .before .before .before .before .before .before .before .before .is-unknown .ensures) (c .before .before .before .before .before .before .before .if1 .left) (c .before .before .before .before .left .ensures) (c .before .before .before .total-in .ensures) _ (c .before .e .given .1)
+returns-3 c = ends-udp-no (c .before .before .before .before .before .before .before .before .before .before .before .args .size) (c .before .before .before .before .before .before .before .before .before .before .before .args .w) (c .before .before .before .before .before .before .before .before .before .before .before .args .h) (now (c .before .before .before .before .before .before .before .before .before .before .before .args .frame)) (now (c .before .before .before .before .before .before .before .before .before .before .before .args .out)) (c .before .before .before .before .before .before .before .before .before .before .before .args .c .at) _ _ _ (c .before .before .before .before .before .before .before .before .is-unknown .ensures) (c .before .before .before .before .before .before .before .if1 .left) (c .before .before .before .before .left .ensures) (c .before .before .before .total-in .ensures) _ (c .before .e .given .1)
 
 pub end-udp-spec : {M : Type 1} → statement M
 end-udp-spec =

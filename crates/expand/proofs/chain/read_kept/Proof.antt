@@ -1,4 +1,4 @@
-use Rattle.expand.proofs.ChainLaws.{kept-on, kept-no}
+use Rattle.expand.proofs.WalkLaws.{kept-on, kept-no}
 use denote.Ref.{now}
 use borrow.Author.Needs.{needs}
 use Rattle.expand.proofs.chain.read_kept.Statement.{statement}
@@ -20,7 +20,7 @@ enum-known-e : tie.Need-enum-known-e
 enum-known-e c = search needs
 
 returns : tie.Need-returns
-returns c = let a = c .before .before .before .before .before .before .before .before .before .before .args in kept-on (now (a .contexts)) (now (a .frame)) (a .src) (a .dst) (a .c .at) _ (c .before .before .before .before .before .before .before .read .ensures) _ _ _ _ (c .before .before .before .before .before .ip .given .1) (c .before .next-number .ensures) (c .first-word .ensures)
+returns c = let a = c .before .before .before .before .before .before .before .before .before .before .args in kept-on (now (a .contexts)) (now (a .frame)) (a .ll .src) (a .ll .dst) (a .c .at) _ (c .before .before .before .before .before .before .before .read .ensures) _ _ _ _ (c .before .before .before .before .before .ip .given .1) (c .before .next-number .ensures) (c .first-word .ensures)
 
 returns-2 : tie.Need-returns-2
 returns-2 c = search kept-no

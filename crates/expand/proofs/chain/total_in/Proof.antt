@@ -1,4 +1,4 @@
-use Rattle.expand.proofs.ChainLaws.{total-bad, total-short, total-good}
+use Rattle.expand.proofs.WalkLaws.{total-bad, total-short, total-good}
 use borrow.Author.Needs.{needs}
 use Rattle.expand.proofs.chain.total_in.Statement.{statement}
 use Rattle.expand.proofs.chain.total_in.Tie as tie

@@ -1,22 +1,35 @@
-use Rattle.expand.proofs.HeadedLaws.{expansion-long, on-expansion, no-expansion}
-use Rattle.expand.specs.Expand.{measured, answered, written}
-use mathlib.Core.Path.{refl}
+use native.Mathlib.Omega.{arith}
+use mathlib.Core.Path.{sym, ap, _∙_}
+use lib.ListN.{replicate, length-replicate}
+use Prim.Native.Nat.{ℕ}
 use denote.Ref.{now}
+use Rattle.expand.specs.Expand.{ofExpanded, expansion}
+use Rattle.expand.proofs.Datagrams.{room-enough, refused-unwritten}
+use Rattle.expand.proofs.FillLaws.{copied-refused, copied-short, copied-answer, copied-bytes}
 use borrow.Author.Needs.{needs}
 use Rattle.expand.proofs.datagram.expand.Statement.{statement}
 use Rattle.expand.proofs.datagram.expand.Tie as tie
 
+slice-aggregate-fill : tie.Need-slice-aggregate-fill
+slice-aggregate-fill c = search needs
+
+fill-requires : tie.Need-fill-requires
+fill-requires c κs = search needs
+
+enum-known-len : tie.Need-enum-known-len
+enum-known-len c = search needs
+
 returns : tie.Need-returns
-returns c = let a = c .before .before .before .before .args in let e = expansion-long (now (a .contexts)) (a .ll .src) (a .ll .dst) (a .size) (now (a .frame)) (a .c .at) (c .if1 .taken) in (rw e refl, rw e refl)
+returns c = let m = expansion (now (c .before .before .before .before .before .before .before .before .before .before .args .contexts)) (c .before .before .before .before .before .before .before .before .before .before .args .ll .src) (c .before .before .before .before .before .before .before .before .before .before .args .ll .dst) (c .before .before .before .before .before .before .before .before .before .before .args .size) (now (c .before .before .before .before .before .before .before .before .before .before .args .frame)) (c .before .before .before .before .before .before .before .before .before .before .args .c .at) in
+    let big = room-enough (now (c .before .before .before .before .before .before .before .before .before .before .args .contexts)) (c .before .before .before .before .before .before .before .before .before .before .args .ll .src) (c .before .before .before .before .before .before .before .before .before .before .args .ll .dst) (c .before .before .before .before .before .before .before .before .before .before .args .size) (now (c .before .before .before .before .before .before .before .before .before .before .args .frame)) (c .before .before .before .before .before .before .before .before .before .before .args .c .at) (replicate 455 0) (omega (arith, length-replicate {A = ℕ} 455 0)) in
+    let q = copied-short m (replicate 455 0) _ (now (c .before .before .before .before .before .before .before .before .before .before .args .out)) _ _ big (ap ofExpanded (sym (c .before .before .len .given .1)) ∙ c .before .before .before .before .before .fill .ensures .0) (c .before .before .before .before .before .fill .ensures .1) (c .if1 .taken) in
+    (q, sym (refused-unwritten m (now (c .before .before .before .before .before .before .before .before .before .before .args .out)) 7 (sym q)))
 
-read-kept-requires : tie.Need-read-kept-requires
-read-kept-requires c κs = search needs
+slice-aggregate-put-slice : tie.Need-slice-aggregate-put-slice
+slice-aggregate-put-slice c = search needs
 
-enum-known-ip : tie.Need-enum-known-ip
-enum-known-ip c = search needs
-
-expand-headed-requires : tie.Need-expand-headed-requires
-expand-headed-requires c κs = search needs
+put-slice-requires : tie.Need-put-slice-requires
+put-slice-requires c κs = search needs
 
 enum-known-e : tie.Need-enum-known-e
 enum-known-e c = search needs
@@ -25,25 +38,26 @@ same-length : tie.Need-same-length
 same-length c = search needs
 
 returns-2 : tie.Need-returns-2
-returns-2 c = let a = c .before .before .before .before .before .before .before .before .before .before .before .before .args in (
-  on-expansion (now (a .contexts)) (a .ll .src) (a .ll .dst) (a .size) (now (a .frame)) (a .c .at) (λ m. answered m (now (a .out))) _ _ (c .before .before .before .before .before .before .before .before .if1 .left) (c .before .before .before .before .before .before .before .read-kept .ensures) _ (c .before .before .before .before .before .ip .given .1) (λ h n q. c .before .before .expand-headed .ensures h n q .0),
-  on-expansion (now (a .contexts)) (a .ll .src) (a .ll .dst) (a .size) (now (a .frame)) (a .c .at) (λ m. written m (now (a .out))) _ _ (c .before .before .before .before .before .before .before .before .if1 .left) (c .before .before .before .before .before .before .before .read-kept .ensures) _ (c .before .before .before .before .before .ip .given .1) (λ h n q. c .before .before .expand-headed .ensures h n q .1),
-)
+returns-2 c = let m = expansion (now (c .before .before .before .before .before .before .before .before .before .before .before .before .before .before .before .args .contexts)) (c .before .before .before .before .before .before .before .before .before .before .before .before .before .before .before .args .ll .src) (c .before .before .before .before .before .before .before .before .before .before .before .before .before .before .before .args .ll .dst) (c .before .before .before .before .before .before .before .before .before .before .before .before .before .before .before .args .size) (now (c .before .before .before .before .before .before .before .before .before .before .before .before .before .before .before .args .frame)) (c .before .before .before .before .before .before .before .before .before .before .before .before .before .before .before .args .c .at) in
+    let big = room-enough (now (c .before .before .before .before .before .before .before .before .before .before .before .before .before .before .before .args .contexts)) (c .before .before .before .before .before .before .before .before .before .before .before .before .before .before .before .args .ll .src) (c .before .before .before .before .before .before .before .before .before .before .before .before .before .before .before .args .ll .dst) (c .before .before .before .before .before .before .before .before .before .before .before .before .before .before .before .args .size) (now (c .before .before .before .before .before .before .before .before .before .before .before .before .before .before .before .args .frame)) (c .before .before .before .before .before .before .before .before .before .before .before .before .before .before .before .args .c .at) (replicate 455 0) (omega (arith, length-replicate {A = ℕ} 455 0)) in
+    let q = ap ofExpanded (sym (c .before .before .before .before .before .before .before .len .given .1)) ∙ c .before .before .before .before .before .before .before .before .before .before .fill .ensures .0 in
+    (copied-answer m (replicate 455 0) _ (now (c .before .before .before .before .before .before .before .before .before .before .before .before .before .before .before .args .out)) _ _ big q (c .before .before .before .before .before .before .before .before .before .before .fill .ensures .1) (c .before .before .before .before .before .if1 .left), copied-bytes m (replicate 455 0) _ (now (c .before .before .before .before .before .before .before .before .before .before .before .before .before .before .before .args .out)) _ _ big q (c .before .before .before .before .before .before .before .before .before .before .fill .ensures .1) (c .before .before .before .before .before .if1 .left) _ (c .before .before .put-slice .ensures))
 
 returns-3 : tie.Need-returns-3
-returns-3 c = let a = c .before .before .before .before .before .before .before .before .args in (
-  no-expansion (now (a .contexts)) (a .ll .src) (a .ll .dst) (a .size) (now (a .frame)) (a .c .at) (λ m. answered m (now (a .out))) _ _ (c .before .before .before .before .if1 .left) (c .before .before .before .read-kept .ensures) _ (c .before .e .given .1) refl,
-  no-expansion (now (a .contexts)) (a .ll .src) (a .ll .dst) (a .size) (now (a .frame)) (a .c .at) (λ m. written m (now (a .out))) _ _ (c .before .before .before .before .if1 .left) (c .before .before .before .read-kept .ensures) _ (c .before .e .given .1) refl,
-)
+returns-3 c = let m = expansion (now (c .before .before .before .before .before .before .before .before .before .args .contexts)) (c .before .before .before .before .before .before .before .before .before .args .ll .src) (c .before .before .before .before .before .before .before .before .before .args .ll .dst) (c .before .before .before .before .before .before .before .before .before .args .size) (now (c .before .before .before .before .before .before .before .before .before .args .frame)) (c .before .before .before .before .before .before .before .before .before .args .c .at) in
+    let big = room-enough (now (c .before .before .before .before .before .before .before .before .before .args .contexts)) (c .before .before .before .before .before .before .before .before .before .args .ll .src) (c .before .before .before .before .before .before .before .before .before .args .ll .dst) (c .before .before .before .before .before .before .before .before .before .args .size) (now (c .before .before .before .before .before .before .before .before .before .args .frame)) (c .before .before .before .before .before .before .before .before .before .args .c .at) (replicate 455 0) (omega (arith, length-replicate {A = ℕ} 455 0)) in
+    copied-refused m (replicate 455 0) (now (c .before .before .before .before .before .before .before .before .before .args .out)) _ big (ap ofExpanded (sym (c .before .e .given .1)) ∙ c .before .before .before .before .fill .ensures .0)
 
 pub expand-spec : {M : Type 1} → statement M
 expand-spec =
     tie.close
     (tie.spec
+    slice-aggregate-fill
+    fill-requires
+    enum-known-len
     returns
-    read-kept-requires
-    enum-known-ip
-    expand-headed-requires
+    slice-aggregate-put-slice
+    put-slice-requires
     enum-known-e
     same-length
     returns-2
