@@ -19,7 +19,7 @@ use super::checksum::UdpSum;
 use super::checksum::put_checksum;
 use super::ip::Kept;
 use super::ip::put_ipv6;
-use ieee802154::addr::AddressField;
+use iphc::LinkAddresses;
 use octets::cursor::Cursor;
 use octets::field::WordField;
 use octets::refusal::Refusal;
@@ -86,21 +86,22 @@ fn expand_headed(
 pub fn expand(
     frame: &[u8],
     c: Cursor,
-    ll_src: AddressField,
-    ll_dst: AddressField,
+    ll: LinkAddresses,
     contexts: &[u8],
     size: WordField,
     out: &mut [u8],
 ) -> Expanded
-    ensures { λ r. ⌜ (ofExpanded r ≡ answered (expansion (now (contexts .entry)) «ll_src» «ll_dst» size
+    ensures { λ r. ⌜ (ofExpanded r ≡ answered (expansion (now (contexts .entry)) (ll .src) (ll .dst) size
         (now (frame .entry)) (c .at)) (now (out .entry)))
-        × (now (out .exit) ≡ written (expansion (now (contexts .entry)) «ll_src» «ll_dst» size (now (frame .entry))
+        × (now (out .exit) ≡ written (expansion (now (contexts .entry)) (ll .src) (ll .dst) size (now (frame .entry))
         (c .at)) (now (out .entry))) ⌝ }
 {
     if 127 < frame.len() {
         return Expanded::Refused(Refusal::BadLength);
     }
-    match read_kept(frame, c, ll_src, ll_dst, contexts) {
+    let src = ll.src;
+    let dst = ll.dst;
+    match read_kept(frame, c, src, dst, contexts) {
         KeptRead::Header(ip) => expand_headed(frame, ip, contexts, size, out),
         KeptRead::Refused(e) => Expanded::Refused(e),
     }
@@ -112,14 +113,13 @@ pub fn expand(
 pub fn measure(
     frame: &[u8],
     c: Cursor,
-    ll_src: AddressField,
-    ll_dst: AddressField,
+    ll: LinkAddresses,
     contexts: &[u8],
     size: WordField,
 ) -> Expanded
-    ensures { λ r. ⌜ ofExpanded r ≡ measured (expansion (now (contexts .entry)) «ll_src» «ll_dst» size
+    ensures { λ r. ⌜ ofExpanded r ≡ measured (expansion (now (contexts .entry)) (ll .src) (ll .dst) size
         (now (frame .entry)) (c .at)) ⌝ }
 {
     let mut room = [0u8; LONGEST];
-    expand(frame, c, ll_src, ll_dst, contexts, size, &mut room)
+    expand(frame, c, ll, contexts, size, &mut room)
 }

@@ -51,7 +51,7 @@ no-datagram d m size tag u bs e q = let z : _≡_ {A = ℕ} 0 1 = ap kindOf q in
 module _ (ctx : List ℕ) (a : Arrival) (s : List ℕ) (size tag u : ℕ) (bs : List ℕ) (e : UdpSum) where
   no-whole : {X : Type 0} → whole ctx a s ≡ is (part size tag u bs e) → X
   unfolding whole
-  no-whole q = go (expansion ctx (AddressField.Some (a .src)) (AddressField.Some (a .dst)) WordField.None s (a .at)) q
+  no-whole q = go (expansion ctx (AddressField.Some (a .src)) (AddressField.Some (a .dst)) WordField.None s (a .payload .at)) q
     where
       go : {X : Type 0} (r : Answer Expansion) → andThen r (λ x. is (datagram (x .bytes) (x .sum))) ≡ is (part size tag u bs e) → X
       go (is x) q = no-datagram (x .bytes) (x .sum) size tag u bs e q
@@ -70,19 +70,19 @@ module _ (ctx : List ℕ) (a : Arrival) (s : List ℕ) (size tag u : ℕ) (bs : 
       go true q = not-refused (part size tag u bs e) 10 q
       go false q = (ap sizeIn q, ap tagIn q)
 
-  fragment-header : fragment ctx a s ≡ is (part size tag u bs e) → Headed s (a .at) size tag
+  fragment-header : fragment ctx a s ≡ is (part size tag u bs e) → Headed s (a .payload .at) size tag
   unfolding fragment
-  fragment-header q = go (frag s (a .at)) refl q
+  fragment-header q = go (frag s (a .payload .at)) refl q
     where
-      go : (r : Answer (Placed Repr)) → frag s (a .at) ≡ r → andThen r (λ p. piece ctx a (p .value) (p .next) s) ≡ is (part size tag u bs e) → Headed s (a .at) size tag
+      go : (r : Answer (Placed Repr)) → frag s (a .payload .at) ≡ r → andThen r (λ p. piece ctx a (p .value) (p .next) s) ≡ is (part size tag u bs e) → Headed s (a .payload .at) size tag
       go (is p) f q = let w = piece-header (p .value) (p .next) q in record { placed = p; header = f; size-is = w .0; tag-is = w .1 }
       go (refused n) f q = not-refused (part size tag u bs e) n q
 
-  pub part-header : payload ctx a s ≡ is (part size tag u bs e) → Headed s (a .at) size tag
+  pub part-header : payload ctx a s ≡ is (part size tag u bs e) → Headed s (a .payload .at) size tag
   unfolding payload
-  part-header q = go (dispatch s (a .at)) q
+  part-header q = go (dispatch s (a .payload .at)) q
     where
-      go : (r : Answer SixlowpanPacket) → andThen r (λ k. byKind k ctx a s) ≡ is (part size tag u bs e) → Headed s (a .at) size tag
+      go : (r : Answer SixlowpanPacket) → andThen r (λ k. byKind k ctx a s) ≡ is (part size tag u bs e) → Headed s (a .payload .at) size tag
       go (is FragmentHeader) q = fragment-header q
       go (is IphcHeader) q = no-whole q
       go (refused n) q = not-refused (part size tag u bs e) n q

@@ -48,21 +48,21 @@ module _ (s : List ℕ) where
   refused-first n e = rw e refl
 
   module _ (a : Arrival) (e : framed s ≡ is a) where
-    pub refused-then : (n : ℕ) → relay s (a .at) ≡ refused n → arrival s ≡ refused n
+    pub refused-then : (n : ℕ) → relay s (a .payload .at) ≡ refused n → arrival s ≡ refused n
     unfolding arrival
     refused-then n f = rw (e, f) refl
 
     -- a frame with neither header arrives as its MAC header says
-    pub direct : isEither (getD s (a .at) 0) ≡ false → arrival s ≡ is a
+    pub direct : isEither (getD s (a .payload .at) 0) ≡ false → arrival s ≡ is a
     unfolding arrival
-    direct f = rw (e, relay-none s (a .at) f) refl
+    direct f = rw (e, relay-none s (a .payload .at) f) refl
 
-    module _ (r : Relay) (n : ℕ) (f : relay s (a .at) ≡ got r n) where
-      pub meshed : (m : Mesh) → r .mesh ≡ MeshField.Some m → arrival s ≡ is (record { src = m .origin; pan = a .pan; dst = m .destination; at = n })
+    module _ (r : Relay) (n : ℕ) (f : relay s (a .payload .at) ≡ got r n) where
+      pub meshed : (m : Mesh) → r .mesh ≡ MeshField.Some m → arrival s ≡ is (record { src = m .origin; pan = a .pan; dst = m .destination; payload = record { at = n } })
       unfolding arrival
       meshed m g = rw (e, f, g) refl
 
       -- a broadcast header alone leaves the addresses
-      pub not-meshed : r .mesh ≡ MeshField.None → arrival s ≡ is (record { src = a .src; pan = a .pan; dst = a .dst; at = n })
+      pub not-meshed : r .mesh ≡ MeshField.None → arrival s ≡ is (record { src = a .src; pan = a .pan; dst = a .dst; payload = record { at = n } })
       unfolding arrival
       not-meshed g = rw (e, f, g) refl

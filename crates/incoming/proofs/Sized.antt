@@ -38,10 +38,10 @@ module _ (ctx : List ℕ) (a : Arrival) (s : List ℕ) where
   whole-sized : SizedBrought (whole ctx a s)
   unfolding whole
   whole-sized =
-      then-all SizedBrought (expansion ctx (AddressField.Some (a .src)) (AddressField.Some (a .dst)) WordField.None s (a .at)) _ (λ n. tt)
+      then-all SizedBrought (expansion ctx (AddressField.Some (a .src)) (AddressField.Some (a .dst)) WordField.None s (a .payload .at)) _ (λ n. tt)
       (λ e q.
-      let made = expansion-made ctx _ _ _ s (a .at) e q in
-      (at-least-40 ctx _ _ _ s (a .at) e made, at-most-455 ctx _ _ _ s (a .at) e made))
+      let made = expansion-made ctx _ _ _ s (a .payload .at) e q in
+      (at-least-40 ctx _ _ _ s (a .payload .at) e made, at-most-455 ctx _ _ _ s (a .payload .at) e made))
 
   piece-sized : (h : Repr) (next : ℕ) → SizedBrought (piece ctx a h next s)
   unfolding piece
@@ -51,9 +51,9 @@ module _ (ctx : List ℕ) (a : Arrival) (s : List ℕ) where
 
   kind-sized : (k : SixlowpanPacket) → SizedBrought (byKind k ctx a s)
   unfolding fragment
-  kind-sized FragmentHeader = then-all SizedBrought (frag s (a .at)) _ (λ n. tt) (λ p q. piece-sized (p .value) (p .next))
+  kind-sized FragmentHeader = then-all SizedBrought (frag s (a .payload .at)) _ (λ n. tt) (λ p q. piece-sized (p .value) (p .next))
   kind-sized IphcHeader = whole-sized
 
   pub payload-sized : SizedBrought (payload ctx a s)
   unfolding payload
-  payload-sized = then-all SizedBrought (dispatch s (a .at)) _ (λ n. tt) (λ k q. kind-sized k)
+  payload-sized = then-all SizedBrought (dispatch s (a .payload .at)) _ (λ n. tt) (λ k q. kind-sized k)

@@ -21,6 +21,7 @@ use Rattle.ieee802154.specs.Mac.{mac}
 use Rattle.ieee802154.specs.declared.addr.AddressField.{AddressField}
 use Rattle.ieee802154.specs.declared.header.Repr as Mac
 use Rattle.ieee802154.proofs.Lengths.{mac-short}
+use Rattle.iphc.specs.declared.read.LinkAddresses.{LinkAddresses}
 use Rattle.sixlowpan.specs.declared.dispatch.SixlowpanPacket.{SixlowpanPacket}
 use Rattle.sixlowpan.specs.declared.dispatch.SixlowpanPacket.the-variants.{FragmentHeader, IphcHeader}
 use Rattle.sixlowpan.specs.Dispatch.{ofDispatch, dispatch}
@@ -37,7 +38,7 @@ use Rattle.expand.specs.Sum.{noSum}
 use Rattle.expand.specs.declared.checksum.UdpSum.{UdpSum}
 use Rattle.expand.specs.declared.datagram.Expanded.{Expanded}
 use Rattle.expand.proofs.Datagrams.{expansion-made, at-most-455}
-use Rattle.incoming.specs.Incoming.{ofArrival, framed, arrival, Brought, datagram, part, scratchAfter, whole, piece, fragment, payload, payloadIn, Brings}
+use Rattle.incoming.specs.Incoming.{ofArrival, framed, arrival, Brought, datagram, part, scratchAfter, linkAddressesOf, whole, piece, fragment, payload, payloadIn, Brings}
 use Rattle.incoming.specs.declared.arrival.Arrival.{Arrival}
 use Rattle.incoming.specs.declared.payload.Payload.{Payload}
 use Rattle.incoming.specs.declared.arrival.ArrivalAnswer.{ArrivalAnswer}
@@ -113,38 +114,45 @@ scratch-first : (m : Answer Expansion) (size tag : ℕ) (room : List ℕ) → wr
 scratch-first (is e) size tag room = refl
 scratch-first (refused n) size tag room = refl
 
-module _ (ctx : List ℕ) (a : Arrival) (s : List ℕ) (room l : List ℕ) (y : Expanded) (r : 455 ≤ length room) where
+module _ (ctx : List ℕ) (a : Arrival) (s : List ℕ) (room l : List ℕ) (y : Expanded) (r : 455 ≤ length room) (ll : LinkAddresses) (k : ll ≡ linkAddressesOf a) where
   abbrev wholly : Answer Expansion
-  wholly = expansion ctx (AddressField.Some (a .src)) (AddressField.Some (a .dst)) WordField.None s (a .at)
+  wholly = expansion ctx (ll .src) (ll .dst) WordField.None s (a .payload .at)
+
+  whole-is : whole ctx a s ≡ andThen wholly (λ e. is (datagram (e .bytes) (e .sum)))
+  unfolding whole
+  whole-is = rw k refl
 
   pub on-whole : (n : ℕ) (el : UdpSum) → ofExpanded y ≡ answered wholly room → l ≡ written wholly room → y ≡ Expanded.Datagram n el → Brings (Payload.Whole n el) room l s (whole ctx a s)
-  unfolding whole
   on-whole n el p q z =
-      let g = got-expanded wholly (small ctx _ _ WordField.None s (a .at)) room l n el r (sym (ap ofExpanded z) ∙ p) q in
-      record {
+      let g = got-expanded wholly (small ctx _ _ WordField.None s (a .payload .at)) room l n el r (sym (ap ofExpanded z) ∙ p) q in
+      rw whole-is
+      (record {
         answer = ap₂ (λ t u. is (datagram t u)) (g .2) (g .3) ∙ sym (ap (λ t. andThen t (λ e. is (datagram (e .bytes) (e .sum)))) (g .1));
         within = g .4;
         scratch = q ∙ scratch-whole wholly room;
-      }
+      })
 
   pub no-whole : (e : Refusal) → ofExpanded y ≡ answered wholly room → l ≡ written wholly room → y ≡ Expanded.Refused e → Brings (Payload.Refused e) room l s (whole ctx a s)
-  unfolding whole
   no-whole e p q z =
-      record {
-        answer = no-expanded wholly (λ x. is (datagram (x .bytes) (x .sum))) (small ctx _ _ WordField.None s (a .at)) room e r (sym (ap ofExpanded z) ∙ p);
+      rw whole-is
+      (record {
+        answer = no-expanded wholly (λ x. is (datagram (x .bytes) (x .sum))) (small ctx _ _ WordField.None s (a .payload .at)) room e r (sym (ap ofExpanded z) ∙ p);
         within = tt;
         scratch = q ∙ scratch-whole wholly room;
-      }
+      })
 
   module _ (size tag next : ℕ) where
     abbrev firstly : Answer Expansion
-    firstly = expansion ctx (AddressField.Some (a .src)) (AddressField.Some (a .dst)) (WordField.Some size) s next
+    firstly = expansion ctx (ll .src) (ll .dst) (WordField.Some size) s next
+
+    first-is : piece ctx a (FirstFragment size tag) next s ≡ andThen firstly (λ e. is (part size tag 0 (e .bytes) (e .sum)))
+    unfolding piece
+    first-is = rw k refl
 
     pub on-first : (h : Repr) (n : ℕ) (el : UdpSum) → h ≡ FirstFragment size tag → ofExpanded y ≡ answered firstly room → l ≡ written firstly room → y ≡ Expanded.Datagram n el → Brings (Payload.First size tag n el) room l s (piece ctx a h next s)
-    unfolding piece
     on-first h n el q p w z =
         let g = got-expanded firstly (small ctx _ _ (WordField.Some size) s next) room l n el r (sym (ap ofExpanded z) ∙ p) w in
-        rw q
+        rw (q, first-is)
         (record {
           answer = ap₂ (λ t u. is (part size tag 0 t u)) (g .2) (g .3) ∙ sym (ap (λ t. andThen t (λ e. is (part size tag 0 (e .bytes) (e .sum)))) (g .1));
           within = g .4;
@@ -152,9 +160,8 @@ module _ (ctx : List ℕ) (a : Arrival) (s : List ℕ) (room l : List ℕ) (y : 
         })
 
     pub no-first : (h : Repr) (e : Refusal) → h ≡ FirstFragment size tag → ofExpanded y ≡ answered firstly room → l ≡ written firstly room → y ≡ Expanded.Refused e → Brings (Payload.Refused e) room l s (piece ctx a h next s)
-    unfolding piece
     no-first h e q p w z =
-        rw q
+        rw (q, first-is)
         (record {
           answer = no-expanded firstly (λ x. is (part size tag 0 (x .bytes) (x .sum))) (small ctx _ _ (WordField.Some size) s next) room e r (sym (ap ofExpanded z) ∙ p);
           within = tt;
@@ -174,15 +181,15 @@ later-some ctx a s room h size tag next o q z i = rw (q, ne-eqb (o .0) 0 z) (rec
 pub header-within : (s : List ℕ) (at : ℕ) (c : Cursor) (h : Repr) (y : Parsed) → ofParsed y ≡ frag s at → y ≡ Parsed.Header h c → c .at ≤ length s
 header-within s at c h y p q = frag-within s at (c .at) h (sym p ∙ ap ofParsed q)
 
-pub on-fragment : (r : Payload) (ctx : List ℕ) (a : Arrival) (s room l : List ℕ) (y : Parsed) (h : Repr) (c : Cursor) → ofParsed y ≡ frag s (a .at) → y ≡ Parsed.Header h c → Brings r room l s (piece ctx a h (c .at) s) → Brings r room l s (fragment ctx a s)
+pub on-fragment : (r : Payload) (ctx : List ℕ) (a : Arrival) (s room l : List ℕ) (y : Parsed) (h : Repr) (c : Cursor) → ofParsed y ≡ frag s (a .payload .at) → y ≡ Parsed.Header h c → Brings r room l s (piece ctx a h (c .at) s) → Brings r room l s (fragment ctx a s)
 unfolding fragment
 on-fragment r ctx a s room l y h c p q b = rw (sym p ∙ ap ofParsed q) b
 
-pub no-fragment : (ctx : List ℕ) (a : Arrival) (s room : List ℕ) (y : Parsed) (e : Refusal) → ofParsed y ≡ frag s (a .at) → y ≡ Parsed.Refused e → Brings (Payload.Refused e) room room s (fragment ctx a s)
+pub no-fragment : (ctx : List ℕ) (a : Arrival) (s room : List ℕ) (y : Parsed) (e : Refusal) → ofParsed y ≡ frag s (a .payload .at) → y ≡ Parsed.Refused e → Brings (Payload.Refused e) room room s (fragment ctx a s)
 unfolding fragment
 no-fragment ctx a s room y e p q = rw (sym p ∙ ap ofParsed q) (record { answer = refl; within = tt; scratch = refl })
 
-module _ (ctx : List ℕ) (a : Arrival) (s room l : List ℕ) (y : DispatchAnswer) (p : ofDispatch y ≡ dispatch s (a .at)) (i : 455 ≤ length room) where
+module _ (ctx : List ℕ) (a : Arrival) (s room l : List ℕ) (y : DispatchAnswer) (p : ofDispatch y ≡ dispatch s (a .payload .at)) (i : 455 ≤ length room) where
   pub kind-fragment : (r : Payload) (k : SixlowpanPacket) → y ≡ DispatchAnswer.Is k → k ≡ FragmentHeader → Brings r room l s (fragment ctx a s) → Brings r room l s (payloadIn room ctx a s)
   unfolding payloadIn payload
   kind-fragment r k q z b = rw (le-leb 455 (length room) i, sym p ∙ ap ofDispatch q, z) b
@@ -191,7 +198,7 @@ module _ (ctx : List ℕ) (a : Arrival) (s room l : List ℕ) (y : DispatchAnswe
   unfolding payloadIn payload
   kind-iphc r k q z b = rw (le-leb 455 (length room) i, sym p ∙ ap ofDispatch q, z) b
 
-pub no-kind : (ctx : List ℕ) (a : Arrival) (s room : List ℕ) (y : DispatchAnswer) (e : Refusal) → ofDispatch y ≡ dispatch s (a .at) → 455 ≤ length room → y ≡ DispatchAnswer.Refused e → Brings (Payload.Refused e) room room s (payloadIn room ctx a s)
+pub no-kind : (ctx : List ℕ) (a : Arrival) (s room : List ℕ) (y : DispatchAnswer) (e : Refusal) → ofDispatch y ≡ dispatch s (a .payload .at) → 455 ≤ length room → y ≡ DispatchAnswer.Refused e → Brings (Payload.Refused e) room room s (payloadIn room ctx a s)
 unfolding payloadIn payload
 no-kind ctx a s room y e p i q = rw (le-leb 455 (length room) i, sym p ∙ ap ofDispatch q) (record { answer = refl; within = tt; scratch = refl })
 

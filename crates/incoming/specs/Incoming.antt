@@ -15,6 +15,7 @@ use Rattle.ieee802154.specs.declared.addr.Address.the-variants.{Absent}
 use Rattle.ieee802154.specs.declared.addr.AddressField.{AddressField}
 use Rattle.ieee802154.specs.declared.addr.PanField.{PanField}
 use Rattle.ieee802154.specs.declared.header.Repr as Mac
+use Rattle.iphc.specs.declared.read.LinkAddresses.{LinkAddresses}
 use Rattle.relay.specs.Headers.{relay}
 use Rattle.relay.specs.declared.mesh.MeshField.{MeshField}
 use Rattle.sixlowpan.specs.Dispatch.{dispatch}
@@ -49,7 +50,7 @@ arrivalOf h n = record {
   src = addressOf (h .«src_addr»);
   pan = panOf (h .«src_pan_id») (h .«dst_pan_id»);
   dst = addressOf (h .«dst_addr»);
-  at = n;
+  payload = record { at = n };
 }
 
 -- the MAC header's refusals; then 13: secured, with information elements, or not a Data frame
@@ -62,12 +63,12 @@ framed s =
 
 -- where a mesh header stands, its originator and final address take the place of the MAC addresses; the PAN is still the MAC header's
 abbrev pub through : Arrival → MeshField → ℕ → Arrival
-through a MeshField.None n = record { src = a .src; pan = a .pan; dst = a .dst; at = n }
-through a (MeshField.Some m) n = record { src = m .origin; pan = a .pan; dst = m .destination; at = n }
+through a MeshField.None n = record { src = a .src; pan = a .pan; dst = a .dst; payload = record { at = n } }
+through a (MeshField.Some m) n = record { src = m .origin; pan = a .pan; dst = m .destination; payload = record { at = n } }
 
 -- then the refusals of mesh and broadcast headers, behind which the payload begins
 unfoldable pub arrival : List ℕ → Answer Arrival
-arrival s = andThen (framed s) (λ a. andThen (relay s (a .at)) (λ p. is (through a (p .value .mesh) (p .next))))
+arrival s = andThen (framed s) (λ a. andThen (relay s (a .payload .at)) (λ p. is (through a (p .value .mesh) (p .next))))
 
 -- ---- what it brings: a whole datagram; or a part of one, with the size and tag of its key, the unit of 8 bytes that it begins at, its
 -- bytes, a first part's in full; each with what is to be remembered of its UDP checksum
@@ -88,18 +89,22 @@ scratchAfter (is (datagram d m)) room = over (length d) d room
 scratchAfter (is (part size tag u bs e)) room = choose (eqb u 0) (over (length bs) bs room) room
 scratchAfter (refused n) room = room
 
+-- the link-layer addresses, from which a compressed header's elided ones are restored
+abbrev pub linkAddressesOf : Arrival → LinkAddresses
+linkAddressesOf a = record { src = AddressField.Some (a .src); dst = AddressField.Some (a .dst) }
+
 -- an unfragmented datagram is expanded
 unfoldable pub whole : List ℕ → Arrival → List ℕ → Answer Brought
-whole ctx a s = andThen (expansion ctx (AddressField.Some (a .src)) (AddressField.Some (a .dst)) WordField.None s (a .at)) (λ e. is (datagram (e .bytes) (e .sum)))
+whole ctx a s = andThen (expansion ctx (linkAddressesOf a .src) (linkAddressesOf a .dst) WordField.None s (a .payload .at)) (λ e. is (datagram (e .bytes) (e .sum)))
 
 -- a first part is expanded; offset 0 in a later part is refused, 10
 unfoldable pub piece : List ℕ → Arrival → Repr → ℕ → List ℕ → Answer Brought
 piece ctx a (FirstFragment size tag) next s =
-    andThen (expansion ctx (AddressField.Some (a .src)) (AddressField.Some (a .dst)) (WordField.Some size) s next) (λ e. is (part size tag 0 (e .bytes) (e .sum)))
+    andThen (expansion ctx (linkAddressesOf a .src) (linkAddressesOf a .dst) (WordField.Some size) s next) (λ e. is (part size tag 0 (e .bytes) (e .sum)))
 piece ctx a (Fragment size tag o) next s = choose (eqb (o .0) 0) (refused 10) (is (part size tag (o .0) (drop next s) noSum))
 
 unfoldable pub fragment : List ℕ → Arrival → List ℕ → Answer Brought
-fragment ctx a s = andThen (frag s (a .at)) (λ p. piece ctx a (p .value) (p .next) s)
+fragment ctx a s = andThen (frag s (a .payload .at)) (λ p. piece ctx a (p .value) (p .next) s)
 
 abbrev pub byKind : SixlowpanPacket → List ℕ → Arrival → List ℕ → Answer Brought
 byKind FragmentHeader ctx a s = fragment ctx a s
@@ -107,7 +112,7 @@ byKind IphcHeader ctx a s = whole ctx a s
 
 -- dispatch (1, 2), and then as it says
 unfoldable pub payload : List ℕ → Arrival → List ℕ → Answer Brought
-payload ctx a s = andThen (dispatch s (a .at)) (λ k. byKind k ctx a s)
+payload ctx a s = andThen (dispatch s (a .payload .at)) (λ k. byKind k ctx a s)
 
 -- 7 where the scratch is shorter than the longest expansion
 unfoldable pub payloadIn : List ℕ → List ℕ → Arrival → List ℕ → Answer Brought

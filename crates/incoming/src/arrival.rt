@@ -1,12 +1,14 @@
 // A frame's MAC header, judged, and the relays' headers behind it.
 ghost use mathlib.Core.Path.{_≡_};
 ghost use Rattle.incoming.specs.Incoming.{ofArrival, addressOf, panOf, arrivalOf, framed, through, arrival};
+ghost use Rattle.incoming.specs.Incoming.{linkAddressesOf};
 use ieee802154::Address;
 use ieee802154::AddressField;
 use ieee802154::PanField;
 use ieee802154::Parsed;
 use ieee802154::Repr;
 use ieee802154::control::has_elements;
+use iphc::LinkAddresses;
 use octets::cursor::Cursor;
 use octets::refusal::Refusal;
 use relay::MeshField;
@@ -18,7 +20,7 @@ pub struct Arrival {
     pub src: Address,
     pub pan: PanField,
     pub dst: Address,
-    pub at: usize,
+    pub payload: Cursor,
 }
 
 pub enum ArrivalAnswer {
@@ -47,8 +49,8 @@ fn pan_of(src: PanField, dst: PanField) -> PanField
 }
 
 impl Arrival {
-    fn of(mac: Repr, at: usize) -> Arrival
-        ensures { λ r. ⌜ r ≡ arrivalOf mac at ⌝ }
+    fn of(mac: Repr, payload: Cursor) -> Arrival
+        ensures { λ r. ⌜ r ≡ arrivalOf mac (payload .at) ⌝ }
     {
         let s = mac.src_addr;
         let d = mac.dst_addr;
@@ -57,7 +59,12 @@ impl Arrival {
         let src = address_of(s);
         let dst = address_of(d);
         let pan = pan_of(sp, dp);
-        Arrival { src, pan, dst, at }
+        Arrival {
+            src,
+            pan,
+            dst,
+            payload,
+        }
     }
 
     // The refusals of the MAC header, and then 13: secured, with information elements, or not a Data frame.
@@ -73,28 +80,39 @@ impl Arrival {
                     return ArrivalAnswer::Refused(Refusal::NotExpanded);
                 }
                 if mac.frame_type.is_data() {
-                    return ArrivalAnswer::Is(Arrival::of(mac, d.at));
+                    return ArrivalAnswer::Is(Arrival::of(mac, d));
                 }
                 ArrivalAnswer::Refused(Refusal::NotExpanded)
             }
             Parsed::Refused(e) => ArrivalAnswer::Refused(e),
         }
     }
+
     // With the addresses of a mesh header, where there is one, and a payload that begins at a place.
-    fn through(self, mesh: MeshField, at: usize) -> Arrival
-        ensures { λ r. ⌜ r ≡ through self mesh at ⌝ }
+    fn through(self, mesh: MeshField, payload: Cursor) -> Arrival
+        ensures { λ r. ⌜ r ≡ through self mesh (payload .at) ⌝ }
     {
         let pan = self.pan;
         match mesh {
             MeshField::None => {
                 let src = self.src;
                 let dst = self.dst;
-                Arrival { src, pan, dst, at }
+                Arrival {
+                    src,
+                    pan,
+                    dst,
+                    payload,
+                }
             }
             MeshField::Some(m) => {
                 let src = m.origin;
                 let dst = m.destination;
-                Arrival { src, pan, dst, at }
+                Arrival {
+                    src,
+                    pan,
+                    dst,
+                    payload,
+                }
             }
         }
     }
@@ -104,14 +122,26 @@ impl Arrival {
         ensures { λ r. ⌜ ofArrival r ≡ arrival (now (frame .entry)) ⌝ }
     {
         match Arrival::framed(frame) {
-            ArrivalAnswer::Is(a) => match Relay::read(frame, Cursor { at: a.at }) {
+            ArrivalAnswer::Is(a) => match Relay::read(frame, a.payload) {
                 RelayRead::Headers(r, c) => {
                     let mesh = r.mesh;
-                    ArrivalAnswer::Is(a.through(mesh, c.at))
+                    ArrivalAnswer::Is(a.through(mesh, c))
                 }
                 RelayRead::Refused(e) => ArrivalAnswer::Refused(e),
             },
             ArrivalAnswer::Refused(e) => ArrivalAnswer::Refused(e),
+        }
+    }
+
+    // The link-layer addresses, from which a compressed header's elided ones are restored.
+    pub(crate) fn link_addresses(self) -> LinkAddresses
+        ensures { λ r. ⌜ r ≡ linkAddressesOf self ⌝ }
+    {
+        let src = self.src;
+        let dst = self.dst;
+        LinkAddresses {
+            src: AddressField::Some(src),
+            dst: AddressField::Some(dst),
         }
     }
 }

@@ -7,7 +7,6 @@ use expand::Expanded;
 use expand::LONGEST;
 use expand::checksum::UdpSum;
 use expand::expand;
-use ieee802154::AddressField;
 use octets::cursor::Cursor;
 use octets::field::WordField;
 use octets::refusal::Refusal;
@@ -44,12 +43,8 @@ fn read_whole(frame: &[u8], a: Arrival, contexts: &[u8], scratch: &mut [u8]) -> 
     ensures { λ r. ⌜ Brings r (now (scratch .entry)) (now (scratch .exit)) (now (frame .entry))
         (whole (now (contexts .entry)) a (now (frame .entry))) ⌝ }
 {
-    let src = a.src;
-    let dst = a.dst;
-    let ls = AddressField::Some(src);
-    let ld = AddressField::Some(dst);
-    let c = Cursor { at: a.at };
-    match expand(frame, c, ls, ld, contexts, WordField::None, scratch) {
+    let ll = a.link_addresses();
+    match expand(frame, a.payload, ll, contexts, WordField::None, scratch) {
         Expanded::Datagram { len, sum } => Payload::Whole { len, sum },
         Expanded::Refused(e) => Payload::Refused(e),
     }
@@ -70,19 +65,8 @@ fn read_part(
 {
     match h {
         frag::Repr::FirstFragment { size, tag } => {
-            let src = a.src;
-            let dst = a.dst;
-            let ls = AddressField::Some(src);
-            let ld = AddressField::Some(dst);
-            match expand(
-                frame,
-                next,
-                ls,
-                ld,
-                contexts,
-                WordField::Some(size),
-                scratch,
-            ) {
+            let ll = a.link_addresses();
+            match expand(frame, next, ll, contexts, WordField::Some(size), scratch) {
                 Expanded::Datagram { len, sum } => Payload::First {
                     size,
                     tag,
@@ -111,7 +95,7 @@ fn read_fragment(frame: &[u8], a: Arrival, contexts: &[u8], scratch: &mut [u8]) 
     ensures { λ r. ⌜ Brings r (now (scratch .entry)) (now (scratch .exit)) (now (frame .entry))
         (fragment (now (contexts .entry)) a (now (frame .entry))) ⌝ }
 {
-    match frag::Repr::read(frame, Cursor { at: a.at }) {
+    match frag::Repr::read(frame, a.payload) {
         frag::Parsed::Header(h, next) => read_part(frame, a, h, next, contexts, scratch),
         frag::Parsed::Refused(e) => Payload::Refused(e),
     }
@@ -127,7 +111,7 @@ impl Payload {
         if scratch.len() < LONGEST {
             return Payload::Refused(Refusal::NoRoom);
         }
-        match SixlowpanPacket::dispatch_at(frame, Cursor { at: a.at }) {
+        match SixlowpanPacket::dispatch_at(frame, a.payload) {
             DispatchAnswer::Is(kind) => match kind {
                 SixlowpanPacket::FragmentHeader => read_fragment(frame, a, contexts, scratch),
                 SixlowpanPacket::IphcHeader => read_whole(frame, a, contexts, scratch),

@@ -23,3 +23,4 @@ pub use header::Parsed;
 pub use header::Repr;
 pub use label::FlowLabel;
 pub use label::LabelField;
+pub use read::LinkAddresses;

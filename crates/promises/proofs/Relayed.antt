@@ -71,7 +71,7 @@ module _ (p p′ q : List ℕ) (l : length (p ++ q) ≤ 127) (l′ : length (p�
   fragment-go (is x) = same-piece (x .value) (x .next)
   fragment-go (refused n) = refl
 
-  module _ (i : a .at ≡ length p + 0) (j : b .at ≡ length p′ + 0) where
+  module _ (i : a .payload .at ≡ length p + 0) (j : b .payload .at ≡ length p′ + 0) where
     same-fragment : fragment ctx a (p ++ q) ≡ fragment ctx b (p′ ++ q)
     unfolding fragment
     same-fragment =
@@ -139,14 +139,14 @@ module _ (front bare q : List ℕ) (r : Relay) (m : Mesh) (a b : Arrival) (is-me
   abbrev apart : relayed ≡ (front ++ relayBytes r) ++ q
   apart = sym (append-assoc front (relayBytes r) q)
 
-  pub behind-relay : framed relayed ≡ is a → a .at ≡ length front → framed (bare ++ q) ≡ is b → b .at ≡ length bare → b .src ≡ m .origin → b .pan ≡ a .pan → b .dst ≡ m .destination
+  pub behind-relay : framed relayed ≡ is a → a .payload .at ≡ length front → framed (bare ++ q) ≡ is b → b .payload .at ≡ length bare → b .src ≡ m .origin → b .pan ≡ a .pan → b .dst ≡ m .destination
       → (gs : List Source) (ctx : List ℕ) (t : ℕ) → frameCall gs ctx t relayed ≡ frameCall gs ctx t (bare ++ q)
   behind-relay e i f j o h d gs ctx t =
       let n = length front + length (relayBytes r) in
-      let w : relay relayed (a .at) ≡ got r n = ap (λ k. relay relayed k) i ∙ relay-trip r q both last front (length front) refl in
+      let w : relay relayed (a .payload .at) ≡ got r n = ap (λ k. relay relayed k) i ∙ relay-trip r q both last front (length front) refl in
       let c = through a (MeshField.Some m) n in
       let x : arrival relayed ≡ is c = meshed relayed a e r n w m is-mesh in
-      let g : getD (bare ++ q) (b .at) 0 ≡ getD q 0 0 = ap (λ k. getD (bare ++ q) k 0) (j ∙ sym (add-zero (length bare))) ∙ getD-append-add bare q 0 0 in
+      let g : getD (bare ++ q) (b .payload .at) 0 ≡ getD q 0 0 = ap (λ k. getD (bare ++ q) k 0) (j ∙ sym (add-zero (length bare))) ∙ getD-append-add bare q 0 0 in
       let y = direct (bare ++ q) b f (ap isEither g ∙ last) in
       let z : n ≡ length (front ++ relayBytes r) + 0 = sym (add-zero (length (front ++ relayBytes r)) ∙ length-append front (relayBytes r)) in
       let A : Alike c b = record { sender = sym o; home = sym h; receiver = sym d } in
@@ -169,7 +169,7 @@ abbrev pub relayed-frame : List ℕ
 relayed-frame = Worked.from 0x77 0xcd 0xab 0x01 (0xb5 ∷ 0x00 ∷ 0x01 ∷ 0xff ∷ 0xff ∷ later-bytes)
 
 abbrev arrives : ℕ → Arrival
-arrives n = record { src = Short n; pan = PanField.Some (record { 0 = 0xabcd }); dst = Short 0xffff; at = 9 }
+arrives n = record { src = Short n; pan = PanField.Some (record { 0 = 0xabcd }); dst = Short 0xffff; payload = record { at = 9 } }
 
 frames-read : (framed relayed-frame ≡ is (arrives 0x77)) × (framed (Worked.from 1 0xcd 0xab 0x01 later-bytes) ≡ is (arrives 1)) × (relayBytes by-relay ≡ 0xb5 ∷ 0x00 ∷ 0x01 ∷ 0xff ∷ 0xff ∷ [])
 unfolding framed byte be16 le16 supported saysElements hasSequence omitsSequence hasAddressing carried01 carried panField addressField side sides addressing auxiliary Mac.sequence Mac.sequenceOf Mac.reprOf Mac.headerRest Mac.afterControl Mac.header Mac.mac hopsBytes byteBytes be16Bytes

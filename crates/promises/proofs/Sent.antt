@@ -57,7 +57,7 @@ pub record Cuts (l : Link) (d : List ℕ) : Type 0 where
 
 module _ (l : Link) (d : List ℕ) (K : Cuts l d) (gs : List Source) (gate : isGate (sender l) gs ≡ true) (ctx : List ℕ) (t : ℕ) where
   abbrev arrived : Arrival
-  arrived = record { src = l .src; pan = PanField.Some (l .pan); dst = l .dst; at = macLength l }
+  arrived = record { src = l .src; pan = PanField.Some (l .pan); dst = l .dst; payload = record { at = macLength l } }
 
   -- its MAC header is read; behind it stands what dispatch knows, so neither header of a relay
   bare : (p : Piece) → length (frameOf l d p) ≤ l .limit → framed (frameOf l d p) ≡ is arrived

@@ -47,7 +47,7 @@ pub record Comes (gs : List Source) (t : ℕ) (s : List ℕ) (u : ℕ) (p : Part
   pub name : named s ≡ is (p .key)
   pub gate : isGate (owner (p .key)) gs ≡ true
 
-named-is : (s : List ℕ) (a : Arrival) (size tag : ℕ) → arrival s ≡ is a → Headed s (a .at) size tag → named s ≡ is (keyOf a size tag)
+named-is : (s : List ℕ) (a : Arrival) (size tag : ℕ) → arrival s ≡ is a → Headed s (a .payload .at) size tag → named s ≡ is (keyOf a size tag)
 unfolding named
 named-is s a size tag e H = rw (e, H .header) (ap₂ (λ (x y : ℕ). is (keyOf a x y)) (H .size-is) (H .tag-is))
 

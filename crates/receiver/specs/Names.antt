@@ -9,4 +9,4 @@ use Rattle.reassembly.specs.declared.slot.Key.{Key}
 
 -- The key that a frame's MAC header and fragment header name: source and destination, size and tag. Every other frame names none.
 unfoldable pub named : List ℕ → Answer Key
-named s = andThen (arrival s) (λ a. andThen (frag s (a .at)) (λ p. is (keyOf a (sizeOf (p .value)) (tagOf (p .value)))))
+named s = andThen (arrival s) (λ a. andThen (frag s (a .payload .at)) (λ p. is (keyOf a (sizeOf (p .value)) (tagOf (p .value)))))

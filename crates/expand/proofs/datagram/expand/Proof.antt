@@ -7,7 +7,7 @@ use Rattle.expand.proofs.datagram.expand.Statement.{statement}
 use Rattle.expand.proofs.datagram.expand.Tie as tie
 
 returns : tie.Need-returns
-returns c = let a = c .before .before .before .before .args in let e = expansion-long (now (a .contexts)) (a .ll-src) (a .ll-dst) (a .size) (now (a .frame)) (a .c .at) (c .if1 .taken) in (rw e refl, rw e refl)
+returns c = let a = c .before .before .before .before .args in let e = expansion-long (now (a .contexts)) (a .ll .src) (a .ll .dst) (a .size) (now (a .frame)) (a .c .at) (c .if1 .taken) in (rw e refl, rw e refl)
 
 read-kept-requires : tie.Need-read-kept-requires
 read-kept-requires c κs = search needs
@@ -26,14 +26,14 @@ same-length c = search needs
 
 returns-2 : tie.Need-returns-2
 returns-2 c = let a = c .before .before .before .before .before .before .before .before .before .before .before .before .args in (
-  on-expansion (now (a .contexts)) (a .ll-src) (a .ll-dst) (a .size) (now (a .frame)) (a .c .at) (λ m. answered m (now (a .out))) _ _ (c .before .before .before .before .before .before .before .before .if1 .left) (c .before .before .before .before .before .before .before .read-kept .ensures) _ (c .before .before .before .before .before .ip .given .1) (λ h n q. c .before .before .expand-headed .ensures h n q .0),
-  on-expansion (now (a .contexts)) (a .ll-src) (a .ll-dst) (a .size) (now (a .frame)) (a .c .at) (λ m. written m (now (a .out))) _ _ (c .before .before .before .before .before .before .before .before .if1 .left) (c .before .before .before .before .before .before .before .read-kept .ensures) _ (c .before .before .before .before .before .ip .given .1) (λ h n q. c .before .before .expand-headed .ensures h n q .1),
+  on-expansion (now (a .contexts)) (a .ll .src) (a .ll .dst) (a .size) (now (a .frame)) (a .c .at) (λ m. answered m (now (a .out))) _ _ (c .before .before .before .before .before .before .before .before .if1 .left) (c .before .before .before .before .before .before .before .read-kept .ensures) _ (c .before .before .before .before .before .ip .given .1) (λ h n q. c .before .before .expand-headed .ensures h n q .0),
+  on-expansion (now (a .contexts)) (a .ll .src) (a .ll .dst) (a .size) (now (a .frame)) (a .c .at) (λ m. written m (now (a .out))) _ _ (c .before .before .before .before .before .before .before .before .if1 .left) (c .before .before .before .before .before .before .before .read-kept .ensures) _ (c .before .before .before .before .before .ip .given .1) (λ h n q. c .before .before .expand-headed .ensures h n q .1),
 )
 
 returns-3 : tie.Need-returns-3
 returns-3 c = let a = c .before .before .before .before .before .before .before .before .args in (
-  no-expansion (now (a .contexts)) (a .ll-src) (a .ll-dst) (a .size) (now (a .frame)) (a .c .at) (λ m. answered m (now (a .out))) _ _ (c .before .before .before .before .if1 .left) (c .before .before .before .read-kept .ensures) _ (c .before .e .given .1) refl,
-  no-expansion (now (a .contexts)) (a .ll-src) (a .ll-dst) (a .size) (now (a .frame)) (a .c .at) (λ m. written m (now (a .out))) _ _ (c .before .before .before .before .if1 .left) (c .before .before .before .read-kept .ensures) _ (c .before .e .given .1) refl,
+  no-expansion (now (a .contexts)) (a .ll .src) (a .ll .dst) (a .size) (now (a .frame)) (a .c .at) (λ m. answered m (now (a .out))) _ _ (c .before .before .before .before .if1 .left) (c .before .before .before .read-kept .ensures) _ (c .before .e .given .1) refl,
+  no-expansion (now (a .contexts)) (a .ll .src) (a .ll .dst) (a .size) (now (a .frame)) (a .c .at) (λ m. written m (now (a .out))) _ _ (c .before .before .before .before .if1 .left) (c .before .before .before .read-kept .ensures) _ (c .before .e .given .1) refl,
 )
 
 pub expand-spec : {M : Type 1} → statement M

@@ -15,7 +15,7 @@ expand-requires : tie.Need-expand-requires
 expand-requires c κs = search needs
 
 returns : tie.Need-returns
-returns c = c .before .expand .ensures .0 ∙ room-enough (now (c .before .before .before .before .before .args .contexts)) (c .before .before .before .before .before .args .ll-src) (c .before .before .before .before .before .args .ll-dst) (c .before .before .before .before .before .args .size) (now (c .before .before .before .before .before .args .frame)) (c .before .before .before .before .before .args .c .at) (replicate 455 0) (omega (arith, length-replicate {A = ℕ} 455 0))
+returns c = c .before .expand .ensures .0 ∙ room-enough (now (c .before .before .before .before .before .args .contexts)) (c .before .before .before .before .before .args .ll .src) (c .before .before .before .before .before .args .ll .dst) (c .before .before .before .before .before .args .size) (now (c .before .before .before .before .before .args .frame)) (c .before .before .before .before .before .args .c .at) (replicate 455 0) (omega (arith, length-replicate {A = ℕ} 455 0))
 
 pub measure-spec : {M : Type 1} → statement M
 measure-spec = tie.close (tie.spec slice-aggregate-expand expand-requires returns)

@@ -6,6 +6,9 @@ use Rattle.incoming.proofs.payload.read_part.Tie as tie
 enum-known-h : tie.Need-enum-known-h
 enum-known-h c = search needs
 
+link-addresses-requires : tie.Need-link-addresses-requires
+link-addresses-requires c κs = search needs
+
 expand-requires : tie.Need-expand-requires
 expand-requires c κs = search needs
 
@@ -41,6 +44,7 @@ read-part-spec =
     tie.close
     (tie.spec
     enum-known-h
+    link-addresses-requires
     expand-requires
     enum-known-len
     enum-known-e

@@ -3,6 +3,9 @@ use borrow.Author.Needs.{needs}
 use Rattle.incoming.proofs.payload.read_whole.Statement.{statement}
 use Rattle.incoming.proofs.payload.read_whole.Tie as tie
 
+link-addresses-requires : tie.Need-link-addresses-requires
+link-addresses-requires c κs = search needs
+
 expand-requires : tie.Need-expand-requires
 expand-requires c κs = search needs
 
@@ -28,6 +31,7 @@ pub read-whole-spec : {M : Type 1} → statement M
 read-whole-spec =
     tie.close
     (tie.spec
+    link-addresses-requires
     expand-requires
     enum-known-len
     enum-known-e
