@@ -5,8 +5,8 @@ use native.Mathlib.Numerals.{add-one}
 use native.Mathlib.Nat.{add-zero}
 use mathlib.Core.List.{List, [], _∷_, _++_, append-assoc}
 use mathlib.Core.Path.{_≡_, refl, sym, ap, _∙_}
-use lib.ListN.{length, getD, set, take, drop, drop-of-length-le, length-set, length-take, length-drop}
-use lib.Seq.{drop-cons, getD-take, getD-drop, sets, sets-eq, set-append-left, set-comm}
+use lib.ListN.{length, getD, set, take, drop, replicate, drop-of-length-le, length-set, length-take, length-drop, replicate-append-replicate}
+use lib.Seq.{drop-cons, getD-take, getD-drop, sets, sets-eq, set-append-left, set-comm, take-suc-set, take-all}
 use Rattle.octets.specs.Write.{put}
 use Rattle.octets.proofs.Puts.{put-none, put-nil}
 
@@ -96,3 +96,14 @@ put-before at (c ∷ cs) bs l =
 
 pub before : (l m n : List ℕ) (at k : ℕ) (cs bs : List ℕ) → length cs ≡ k → m ≡ put (at + k) bs l → n ≡ put at cs m → n ≡ put at (cs ++ bs) l
 before l m n at k cs bs h p q = q ∙ ap (put at cs) (p ∙ ap (λ z. put (at + z) bs l) (sym h)) ∙ put-before at cs bs l
+
+-- ---- bytes that are cleared: i of them so far, and one more
+pub clear-more : (l : List ℕ) (i : ℕ) → i < length l → take i l ≡ replicate i 0 → take (i + 1) (set l i 0) ≡ replicate (i + 1) 0
+clear-more l i h e =
+    let s : suc i ≡ i + 1 = omega arith in
+    ap (λ k. take k (set l i 0)) (sym s) ∙ take-suc-set l i 0 h ∙ ap (λ z. z ++ (0 ∷ [])) e ∙ replicate-append-replicate i 1 0
+
+pub clear-end : (l : List ℕ) (i n : ℕ) → length l ≡ n → i ≤ n → n ≤ i → take i l ≡ replicate i 0 → l ≡ replicate n 0
+clear-end l i n k g h e =
+    let j : i ≡ n = omega arith in
+    sym (take-all i l (omega arith)) ∙ e ∙ ap (λ z. replicate z 0) j

@@ -1,9 +1,9 @@
 -- The datagram that a frame stands for (the scope document, "Expansion and the slot table").
 use Prim.Native.Nat.{ℕ, _+_, _-_}
-use mathlib.Core.List.{List}
+use mathlib.Core.List.{List, _++_}
 use mathlib.Core.Bool.{false}
 use lib.Dec.{ltb, leb}
-use lib.ListN.{length}
+use lib.ListN.{length, drop, replicate}
 use Rattle.octets.specs.Read.{Answer, is, refused, andThen, choose}
 use Rattle.octets.specs.Refusal.{numberOf}
 use Rattle.octets.specs.Write.{over}
@@ -70,3 +70,8 @@ answered m room = andThen m (λ e. choose (leb (length (e .bytes)) (length room)
 abbrev pub written : Answer Expansion → List ℕ → List ℕ
 written (is e) room = over (length (e .bytes)) (e .bytes) room
 written (refused n) room = room
+
+-- the room of `fill` afterwards: the bytes at its front and the rest as it was; or, where anything was refused, every byte 0
+abbrev pub filled : Answer Expansion → List ℕ → List ℕ
+filled (is e) room = choose (leb (length (e .bytes)) (length room)) (e .bytes ++ drop (length (e .bytes)) room) (replicate (length room) 0)
+filled (refused n) room = replicate (length room) 0

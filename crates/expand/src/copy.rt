@@ -1,7 +1,7 @@
-// Bytes of a slice put into lent bytes.
+// Bytes of a slice put into lent bytes; and lent bytes cleared.
 ghost use mathlib.Core.Path.{_≡_};
 ghost use Prim.Native.Nat.{min};
-ghost use lib.ListN.{length, take, drop};
+ghost use lib.ListN.{length, take, drop, replicate};
 ghost use Rattle.octets.specs.Write.{put};
 
 // How many bytes there are from a place on.
@@ -26,6 +26,17 @@ pub fn put_slice(buf: &mut [u8], at: usize, s: &[u8], from: usize, n: usize)
     let mut i = 0;
     while i < m {
         buf[at + i] = s[from + i];
+        i += 1;
+    }
+}
+
+// Every byte 0.
+pub fn clear(room: &mut [u8])
+    ensures { λ _. ⌜ now (room .exit) ≡ replicate (length (now (room .entry))) 0 ⌝ }
+{
+    let mut i = 0;
+    while i < room.len() {
+        room[i] = 0;
         i += 1;
     }
 }

@@ -4,7 +4,7 @@ ghost use Prim.Native.Nat.{ℕ, _≤_, _+_};
 ghost use lib.ListN.{length};
 ghost use Rattle.expand.specs.Sum.{summedIn};
 ghost use Rattle.expand.specs.Expand.{ofExpanded, finishedIn, headed, expansion, measured, answered};
-ghost use Rattle.expand.specs.Expand.{written};
+ghost use Rattle.expand.specs.Expand.{written, filled};
 ghost use Rattle.expand.specs.Full.{keep};
 ghost use Rattle.expand.specs.Chain.{nextNumber};
 ghost use Rattle.iphc.specs.declared.header.Repr.{Repr};
@@ -17,6 +17,7 @@ use super::chain::read_kept;
 use super::chain::total_of;
 use super::checksum::UdpSum;
 use super::checksum::put_checksum;
+use super::copy::clear;
 use super::ip::Kept;
 use super::ip::put_ipv6;
 use iphc::LinkAddresses;
@@ -104,6 +105,29 @@ pub fn expand(
     match read_kept(frame, c, src, dst, contexts) {
         KeptRead::Header(ip) => expand_headed(frame, ip, contexts, size, out),
         KeptRead::Refused(e) => Expanded::Refused(e),
+    }
+}
+
+// As `expand`, into a room that is its caller's own: where anything is refused, every byte of it is 0.
+pub fn fill(
+    frame: &[u8],
+    c: Cursor,
+    ll: LinkAddresses,
+    contexts: &[u8],
+    size: WordField,
+    room: &mut [u8],
+) -> Expanded
+    ensures { λ r. ⌜ (ofExpanded r ≡ answered (expansion (now (contexts .entry)) (ll .src) (ll .dst) size
+        (now (frame .entry)) (c .at)) (now (room .entry)))
+        × (now (room .exit) ≡ filled (expansion (now (contexts .entry)) (ll .src) (ll .dst) size (now (frame .entry))
+        (c .at)) (now (room .entry))) ⌝ }
+{
+    match expand(frame, c, ll, contexts, size, room) {
+        Expanded::Datagram { len, sum } => Expanded::Datagram { len, sum },
+        Expanded::Refused(e) => {
+            clear(room);
+            Expanded::Refused(e)
+        }
     }
 }
 
