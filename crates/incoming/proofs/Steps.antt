@@ -5,7 +5,7 @@ use native.Mathlib.Omega.{arith}
 use mathlib.Core.List.{List, _++_}
 use mathlib.Core.Bool.{Bool, true, false}
 use mathlib.Core.Path.{_≡_, refl, sym, ap, ap₂, _∙_}
-use lib.ListN.{length, take, drop, length-append}
+use lib.ListN.{length, take, drop, replicate, length-append}
 use lib.Seq.{take-at}
 use lib.Dec.{leb, eqb}
 use borrow.Author.Tests.{le-leb, lt-leb, eq-eqb, ne-eqb}
@@ -33,14 +33,15 @@ use Rattle.sixlowpan.specs.declared.frag.Units.{Units}
 use Rattle.sixlowpan.specs.declared.frag.Repr.{Repr}
 use Rattle.sixlowpan.specs.declared.frag.Repr.the-variants.{FirstFragment, Fragment}
 use Rattle.expand.specs.Chain.{Measure}
-use Rattle.expand.specs.Expand.{Expansion, expansion, ofExpanded, measureOf, answered, written}
+use Rattle.expand.specs.Expand.{Expansion, expansion, ofExpanded, measureOf, answered, filled}
 use Rattle.expand.specs.Sum.{noSum}
 use Rattle.expand.specs.declared.checksum.UdpSum.{UdpSum}
 use Rattle.expand.specs.declared.datagram.Expanded.{Expanded}
 use Rattle.expand.proofs.Datagrams.{expansion-made, at-most-455}
-use Rattle.incoming.specs.Incoming.{ofArrival, framed, arrival, Brought, datagram, part, scratchAfter, linkAddressesOf, whole, piece, fragment, payload, payloadIn, Brings}
+use Rattle.incoming.specs.Incoming.{ofArrival, framed, arrival, Brought, datagram, part, scratchAfter, linkAddressesOf, whole, piece, fragment, payload, payloadIn, expanded, expandedTo, Begins, Brings}
 use Rattle.incoming.specs.declared.arrival.Arrival.{Arrival}
 use Rattle.incoming.specs.declared.payload.Payload.{Payload}
+use Rattle.incoming.specs.declared.payload.Head.{Head}
 use Rattle.incoming.specs.declared.arrival.ArrivalAnswer.{ArrivalAnswer}
 
 -- ---- a frame that is judged has at most 127 bytes
@@ -74,7 +75,7 @@ unfolding Small
 small ctx ls ld size s at e p = at-most-455 ctx ls ld size s at e (expansion-made ctx ls ld size s at e p)
 
 -- what a datagram of n bytes, and what is remembered of its checksum, say
-got-expanded : (m : Answer Expansion) → Small m → (room l : List ℕ) (n : ℕ) (el : UdpSum) → 455 ≤ length room → ofExpanded (Expanded.Datagram n el) ≡ answered m room → l ≡ written m room
+got-expanded : (m : Answer Expansion) → Small m → (room l : List ℕ) (n : ℕ) (el : UdpSum) → 455 ≤ length room → ofExpanded (Expanded.Datagram n el) ≡ answered m room → l ≡ filled m room
     → (e : Expansion) × (m ≡ is e) × (take n l ≡ e .bytes) × (el ≡ e .sum) × (n ≤ length l)
 unfolding Small
 got-expanded (refused k) h room l n el r p q = not-refused _ k (sym p)
@@ -106,107 +107,100 @@ no-expanded (is x) k h room e r p =
     not-refused (measureOf x) (numberOf e) g
 
 -- what the room holds then
-scratch-whole : (m : Answer Expansion) (room : List ℕ) → written m room ≡ scratchAfter (andThen m (λ e. is (datagram (e .bytes) (e .sum)))) room
-scratch-whole (is e) room = refl
-scratch-whole (refused n) room = refl
+scratch-is : (m : Answer Expansion) → Small m → (size : WordField) (tag : ℕ) (room : List ℕ) → 455 ≤ length room → filled m room ≡ scratchAfter (andThen m (λ e. is (expanded size tag e))) room
+unfolding Small
+scratch-is (refused n) h size tag room r = refl
+scratch-is (is e) h WordField.None tag room r = rw (le-leb (length (e .bytes)) (length room) (omega (arith, h e refl))) refl
+scratch-is (is e) h (WordField.Some size) tag room r = rw (le-leb (length (e .bytes)) (length room) (omega (arith, h e refl))) refl
 
-scratch-first : (m : Answer Expansion) (size tag : ℕ) (room : List ℕ) → written m room ≡ scratchAfter (andThen m (λ e. is (part size tag 0 (e .bytes) (e .sum)))) room
-scratch-first (is e) size tag room = refl
-scratch-first (refused n) size tag room = refl
+-- ---- what a payload begins with: a part, by its fragment header h, which ends at c
+module _ (h : Repr) (c : Cursor) where
+  pub first-head : (size tag : ℕ) → h ≡ FirstFragment size tag → (ctx : List ℕ) (a : Arrival) (s : List ℕ) → c .at ≤ length s → Begins (Head.Compressed c (WordField.Some size) tag) ctx a s (piece ctx a h (c .at) s)
+  unfolding piece
+  first-head size tag q ctx a s i = rw q (refl, tt)
 
-module _ (ctx : List ℕ) (a : Arrival) (s : List ℕ) (room l : List ℕ) (y : Expanded) (r : 455 ≤ length room) (ll : LinkAddresses) (k : ll ≡ linkAddressesOf a) where
-  abbrev wholly : Answer Expansion
-  wholly = expansion ctx (ll .src) (ll .dst) WordField.None s (a .payload .at)
-
-  whole-is : whole ctx a s ≡ andThen wholly (λ e. is (datagram (e .bytes) (e .sum)))
-  unfolding whole
-  whole-is = rw k refl
-
-  pub on-whole : (n : ℕ) (el : UdpSum) → ofExpanded y ≡ answered wholly room → l ≡ written wholly room → y ≡ Expanded.Datagram n el → Brings (Payload.Whole n el) room l s (whole ctx a s)
-  on-whole n el p q z =
-      let g = got-expanded wholly (small ctx _ _ WordField.None s (a .payload .at)) room l n el r (sym (ap ofExpanded z) ∙ p) q in
-      rw whole-is
-      (record {
-        answer = ap₂ (λ t u. is (datagram t u)) (g .2) (g .3) ∙ sym (ap (λ t. andThen t (λ e. is (datagram (e .bytes) (e .sum)))) (g .1));
-        within = g .4;
-        scratch = q ∙ scratch-whole wholly room;
-      })
-
-  pub no-whole : (e : Refusal) → ofExpanded y ≡ answered wholly room → l ≡ written wholly room → y ≡ Expanded.Refused e → Brings (Payload.Refused e) room l s (whole ctx a s)
-  no-whole e p q z =
-      rw whole-is
-      (record {
-        answer = no-expanded wholly (λ x. is (datagram (x .bytes) (x .sum))) (small ctx _ _ WordField.None s (a .payload .at)) room e r (sym (ap ofExpanded z) ∙ p);
-        within = tt;
-        scratch = q ∙ scratch-whole wholly room;
-      })
-
-  module _ (size tag next : ℕ) where
-    abbrev firstly : Answer Expansion
-    firstly = expansion ctx (ll .src) (ll .dst) (WordField.Some size) s next
-
-    first-is : piece ctx a (FirstFragment size tag) next s ≡ andThen firstly (λ e. is (part size tag 0 (e .bytes) (e .sum)))
+  module _ (size tag : ℕ) (o : Units) (q : h ≡ Fragment size tag o) where
+    pub zero-head : o .0 ≡ 0 → (ctx : List ℕ) (a : Arrival) (s : List ℕ) → c .at ≤ length s → Begins (Head.Refused BadPart) ctx a s (piece ctx a h (c .at) s)
     unfolding piece
-    first-is = rw k refl
+    zero-head z ctx a s i = rw (q, eq-eqb (o .0) 0 z) (refl, tt)
 
-    pub on-first : (h : Repr) (n : ℕ) (el : UdpSum) → h ≡ FirstFragment size tag → ofExpanded y ≡ answered firstly room → l ≡ written firstly room → y ≡ Expanded.Datagram n el → Brings (Payload.First size tag n el) room l s (piece ctx a h next s)
-    on-first h n el q p w z =
-        let g = got-expanded firstly (small ctx _ _ (WordField.Some size) s next) room l n el r (sym (ap ofExpanded z) ∙ p) w in
-        rw (q, first-is)
-        (record {
-          answer = ap₂ (λ t u. is (part size tag 0 t u)) (g .2) (g .3) ∙ sym (ap (λ t. andThen t (λ e. is (part size tag 0 (e .bytes) (e .sum)))) (g .1));
-          within = g .4;
-          scratch = w ∙ scratch-first firstly size tag room;
-        })
+    pub later-head : (o .0 ≡ 0 → ⊥) → (ctx : List ℕ) (a : Arrival) (s : List ℕ) → c .at ≤ length s → Begins (Head.Later size tag o (c .at)) ctx a s (piece ctx a h (c .at) s)
+    unfolding piece
+    later-head z ctx a s i = rw (q, ne-eqb (o .0) 0 z) (refl, (i, omega (arith, z)))
 
-    pub no-first : (h : Repr) (e : Refusal) → h ≡ FirstFragment size tag → ofExpanded y ≡ answered firstly room → l ≡ written firstly room → y ≡ Expanded.Refused e → Brings (Payload.Refused e) room l s (piece ctx a h next s)
-    no-first h e q p w z =
-        rw (q, first-is)
-        (record {
-          answer = no-expanded firstly (λ x. is (part size tag 0 (x .bytes) (x .sum))) (small ctx _ _ (WordField.Some size) s next) room e r (sym (ap ofExpanded z) ∙ p);
-          within = tt;
-          scratch = w ∙ scratch-first firstly size tag room;
-        })
-
--- ---- a later part
-pub later-zero : (ctx : List ℕ) (a : Arrival) (s room : List ℕ) (h : Repr) (size tag next : ℕ) (o : Units) → h ≡ Fragment size tag o → o .0 ≡ 0 → Brings (Payload.Refused BadPart) room room s (piece ctx a h next s)
-unfolding piece
-later-zero ctx a s room h size tag next o q z = rw (q, eq-eqb (o .0) 0 z) (record { answer = refl; within = tt; scratch = refl })
-
-pub later-some : (ctx : List ℕ) (a : Arrival) (s room : List ℕ) (h : Repr) (size tag next : ℕ) (o : Units) → h ≡ Fragment size tag o → (o .0 ≡ 0 → ⊥) → next ≤ length s → Brings (Payload.Later size tag o next) room room s (piece ctx a h next s)
-unfolding piece
-later-some ctx a s room h size tag next o q z i = rw (q, ne-eqb (o .0) 0 z) (record { answer = refl; within = (i, omega (arith, z)); scratch = rw (ne-eqb (o .0) 0 z) refl })
-
--- ---- by the fragment header, and by the dispatch
-pub header-within : (s : List ℕ) (at : ℕ) (c : Cursor) (h : Repr) (y : Parsed) → ofParsed y ≡ frag s at → y ≡ Parsed.Header h c → c .at ≤ length s
+-- by the fragment header, and by the dispatch
+header-within : (s : List ℕ) (at : ℕ) (c : Cursor) (h : Repr) (y : Parsed) → ofParsed y ≡ frag s at → y ≡ Parsed.Header h c → c .at ≤ length s
 header-within s at c h y p q = frag-within s at (c .at) h (sym p ∙ ap ofParsed q)
 
-pub on-fragment : (r : Payload) (ctx : List ℕ) (a : Arrival) (s room l : List ℕ) (y : Parsed) (h : Repr) (c : Cursor) → ofParsed y ≡ frag s (a .payload .at) → y ≡ Parsed.Header h c → Brings r room l s (piece ctx a h (c .at) s) → Brings r room l s (fragment ctx a s)
-unfolding fragment
-on-fragment r ctx a s room l y h c p q b = rw (sym p ∙ ap ofParsed q) b
+module _ (s : List ℕ) (c : Cursor) (y : Parsed) (p : ofParsed y ≡ frag s (c .at)) where
+  pub on-fragment : (r : Head) (h : Repr) (n : Cursor) → y ≡ Parsed.Header h n → ((ctx : List ℕ) (a : Arrival) (s : List ℕ) → n .at ≤ length s → Begins r ctx a s (piece ctx a h (n .at) s)) → (ctx : List ℕ) (a : Arrival) → a .payload ≡ c → Begins r ctx a s (fragment ctx a s)
+  unfolding fragment
+  on-fragment r h n q b ctx a e = rw (ap (λ d. frag s (d .at)) e ∙ sym p ∙ ap ofParsed q) (b ctx a s (header-within s (c .at) n h y p q))
 
-pub no-fragment : (ctx : List ℕ) (a : Arrival) (s room : List ℕ) (y : Parsed) (e : Refusal) → ofParsed y ≡ frag s (a .payload .at) → y ≡ Parsed.Refused e → Brings (Payload.Refused e) room room s (fragment ctx a s)
-unfolding fragment
-no-fragment ctx a s room y e p q = rw (sym p ∙ ap ofParsed q) (record { answer = refl; within = tt; scratch = refl })
+  pub no-fragment : (e : Refusal) → y ≡ Parsed.Refused e → (ctx : List ℕ) (a : Arrival) → a .payload ≡ c → Begins (Head.Refused e) ctx a s (fragment ctx a s)
+  unfolding fragment
+  no-fragment x q ctx a e = rw (e, sym p ∙ ap ofParsed q) (refl, tt)
 
-module _ (ctx : List ℕ) (a : Arrival) (s room l : List ℕ) (y : DispatchAnswer) (p : ofDispatch y ≡ dispatch s (a .payload .at)) (i : 455 ≤ length room) where
-  pub kind-fragment : (r : Payload) (k : SixlowpanPacket) → y ≡ DispatchAnswer.Is k → k ≡ FragmentHeader → Brings r room l s (fragment ctx a s) → Brings r room l s (payloadIn room ctx a s)
-  unfolding payloadIn payload
-  kind-fragment r k q z b = rw (le-leb 455 (length room) i, sym p ∙ ap ofDispatch q, z) b
+module _ (s : List ℕ) (c : Cursor) (y : DispatchAnswer) (p : ofDispatch y ≡ dispatch s (c .at)) where
+  pub kind-fragment : (r : Head) (k : SixlowpanPacket) → y ≡ DispatchAnswer.Is k → k ≡ FragmentHeader → ((ctx : List ℕ) (a : Arrival) → a .payload ≡ c → Begins r ctx a s (fragment ctx a s)) → (ctx : List ℕ) (a : Arrival) → a .payload ≡ c → Begins r ctx a s (payload ctx a s)
+  unfolding payload
+  kind-fragment r k q z b ctx a e = let w = b ctx a e in rw (ap (λ d. dispatch s (d .at)) e ∙ sym p ∙ ap ofDispatch q, z) w
 
-  pub kind-iphc : (r : Payload) (k : SixlowpanPacket) → y ≡ DispatchAnswer.Is k → k ≡ IphcHeader → Brings r room l s (whole ctx a s) → Brings r room l s (payloadIn room ctx a s)
-  unfolding payloadIn payload
-  kind-iphc r k q z b = rw (le-leb 455 (length room) i, sym p ∙ ap ofDispatch q, z) b
+  pub kind-iphc : (tag : ℕ) (k : SixlowpanPacket) → y ≡ DispatchAnswer.Is k → k ≡ IphcHeader → (ctx : List ℕ) (a : Arrival) → a .payload ≡ c → Begins (Head.Compressed c WordField.None tag) ctx a s (payload ctx a s)
+  unfolding payload whole
+  kind-iphc tag k q z ctx a e = rw (e, sym p ∙ ap ofDispatch q, z) (refl, tt)
 
-pub no-kind : (ctx : List ℕ) (a : Arrival) (s room : List ℕ) (y : DispatchAnswer) (e : Refusal) → ofDispatch y ≡ dispatch s (a .payload .at) → 455 ≤ length room → y ≡ DispatchAnswer.Refused e → Brings (Payload.Refused e) room room s (payloadIn room ctx a s)
-unfolding payloadIn payload
-no-kind ctx a s room y e p i q = rw (le-leb 455 (length room) i, sym p ∙ ap ofDispatch q) (record { answer = refl; within = tt; scratch = refl })
+  pub no-kind : (e : Refusal) → y ≡ DispatchAnswer.Refused e → (ctx : List ℕ) (a : Arrival) → a .payload ≡ c → Begins (Head.Refused e) ctx a s (payload ctx a s)
+  unfolding payload
+  no-kind x q ctx a e = rw (e, sym p ∙ ap ofDispatch q) (refl, tt)
 
-pub no-room : (ctx : List ℕ) (a : Arrival) (s room : List ℕ) → length room < 455 → Brings (Payload.Refused NoRoom) room room s (payloadIn room ctx a s)
-unfolding payloadIn
-no-room ctx a s room h = rw (lt-leb 455 (length room) h) (record { answer = refl; within = tt; scratch = refl })
+pub ruleset heads = (first-head, zero-head, later-head, on-fragment, no-fragment, kind-fragment, kind-iphc, no-kind)
 
-pub ruleset payloads = (on-whole, no-whole, on-first, no-first, later-zero, later-some, header-within, on-fragment, no-fragment, kind-fragment, kind-iphc, no-kind, no-room)
+-- ---- what it brings then
+module _ (ctx : List ℕ) (a : Arrival) (s room : List ℕ) where
+  pub no-room : length room < 455 → (l : List ℕ) → l ≡ replicate (length room) 0 → Brings (Payload.Refused NoRoom) room l s (payloadIn room ctx a s)
+  unfolding payloadIn
+  no-room h l w = rw (lt-leb 455 (length room) h) (record { answer = refl; within = tt; scratch = w })
+
+  module _ (i : 455 ≤ length room) (h : Head) (b : (ctx : List ℕ) (x : Arrival) → x .payload ≡ a .payload → Begins h ctx x s (payload ctx x s)) where
+    is-behind : (x : Head) → h ≡ x → Begins x ctx a s (payloadIn room ctx a s)
+    is-behind x q = rw (in-room room ctx a s i, sym q) (b ctx a refl)
+
+    pub no-head : (e : Refusal) → h ≡ Head.Refused e → (l : List ℕ) → l ≡ replicate (length room) 0 → Brings (Payload.Refused e) room l s (payloadIn room ctx a s)
+    no-head e q l w = rw (sym (is-behind (Head.Refused e) q .0)) (record { answer = refl; within = tt; scratch = w })
+
+    pub on-later : (size tag : ℕ) (o : Units) (from : ℕ) → h ≡ Head.Later size tag o from → Brings (Payload.Later size tag o from) room room s (payloadIn room ctx a s)
+    on-later size tag o from q =
+        let (e, w) = is-behind (Head.Later size tag o from) q in
+        rw (sym e) (record { answer = refl; within = w; scratch = rw (ne-eqb (o .0) 0 (λ z. omega (arith, z, w .1))) refl })
+
+    module _ (c : Cursor) (size : WordField) (tag : ℕ) (q : h ≡ Head.Compressed c size tag) (ll : LinkAddresses) (k : ll ≡ linkAddressesOf a) where
+      abbrev fully : Answer Expansion
+      fully = expansion ctx (ll .src) (ll .dst) size s (c .at)
+
+      fully-is : andThen fully (λ e. is (expanded size tag e)) ≡ payloadIn room ctx a s
+      fully-is = rw k (is-behind (Head.Compressed c size tag) q .0)
+
+      module _ (l : List ℕ) (y : Expanded) (p : ofExpanded y ≡ answered fully room) (w : l ≡ filled fully room) where
+        pub on-filled : (n : ℕ) (el : UdpSum) → y ≡ Expanded.Datagram n el → (r : Payload) → r ≡ expandedTo size tag n el → Brings r room l s (payloadIn room ctx a s)
+        on-filled n el z r t =
+            let g = got-expanded fully (small ctx _ _ size s (c .at)) room l n el i (sym (ap ofExpanded z) ∙ p) w in
+            rw (t, sym fully-is) (to size g)
+          where
+            to : (x : WordField) → (e : Expansion) × (fully ≡ is e) × (take n l ≡ e .bytes) × (el ≡ e .sum) × (n ≤ length l) → Brings (expandedTo x tag n el) room l s (andThen fully (λ e. is (expanded x tag e)))
+            to WordField.None g = record { answer = ap₂ (λ t u. is (datagram t u)) (g .2) (g .3) ∙ sym (ap (λ t. andThen t (λ e. is (datagram (e .bytes) (e .sum)))) (g .1)); within = g .4; scratch = w ∙ scratch-is fully (small ctx _ _ size s (c .at)) WordField.None tag room i }
+            to (WordField.Some x) g = record { answer = ap₂ (λ t u. is (part x tag 0 t u)) (g .2) (g .3) ∙ sym (ap (λ t. andThen t (λ e. is (part x tag 0 (e .bytes) (e .sum)))) (g .1)); within = g .4; scratch = w ∙ scratch-is fully (small ctx _ _ size s (c .at)) (WordField.Some x) tag room i }
+
+        pub no-filled : (e : Refusal) → y ≡ Expanded.Refused e → Brings (Payload.Refused e) room l s (payloadIn room ctx a s)
+        no-filled e z =
+            rw (sym fully-is)
+            (record {
+              answer = no-expanded fully (λ x. is (expanded size tag x)) (small ctx _ _ size s (c .at)) room e i (sym (ap ofExpanded z) ∙ p);
+              within = tt;
+              scratch = w ∙ scratch-is fully (small ctx _ _ size s (c .at)) size tag room i;
+            })
+
+pub ruleset payloads = (no-room, no-head, on-later, on-filled, no-filled)
 
 -- ---- for callers
 pub on-arrival : {B : Type 0} {r : Answer B} {y : ArrivalAnswer} {x : Arrival} (m : Answer Arrival) (k : Arrival → Answer B) → ofArrival y ≡ m → y ≡ ArrivalAnswer.Is x → r ≡ k x → r ≡ andThen m k

@@ -2,7 +2,7 @@
 use Prim.Native.Nat.{ℕ, _≤_}
 use mathlib.Core.List.{List}
 use mathlib.Core.Path.{_≡_}
-use lib.ListN.{length, take, drop}
+use lib.ListN.{length, take, drop, replicate}
 use lib.Dec.{eqb, leb}
 use Rattle.octets.specs.Read.{Answer, is, refused, Placed, andThen, choose}
 use Rattle.octets.specs.Refusal.{numberOf}
@@ -30,6 +30,7 @@ use Rattle.expand.specs.declared.checksum.UdpSum.{UdpSum}
 use Rattle.incoming.specs.declared.arrival.Arrival.{Arrival}
 use Rattle.incoming.specs.declared.arrival.ArrivalAnswer.{ArrivalAnswer}
 use Rattle.incoming.specs.declared.payload.Payload.{Payload}
+use Rattle.incoming.specs.declared.payload.Head.{Head}
 
 -- ---- who sends it to whom, and where its payload begins
 abbrev pub ofArrival : ArrivalAnswer → Answer Arrival
@@ -83,11 +84,15 @@ ofPayload (Payload.First size tag n e) sc s = is (part size tag 0 (take n sc) e)
 ofPayload (Payload.Later size tag o from) sc s = is (part size tag (o .0) (drop from s) noSum)
 ofPayload (Payload.Refused e) sc s = refused (numberOf e)
 
--- the scratch after the call: what was expanded stands at its start, and nothing else of it changes
+-- the scratch after the call: what was expanded stands at its start, and nothing else of it changes; a refusal clears it
 abbrev pub scratchAfter : Answer Brought → List ℕ → List ℕ
 scratchAfter (is (datagram d m)) room = over (length d) d room
 scratchAfter (is (part size tag u bs e)) room = choose (eqb u 0) (over (length bs) bs room) room
-scratchAfter (refused n) room = room
+scratchAfter (refused n) room = replicate (length room) 0
+
+-- the link-layer addresses, from which a compressed header's elided ones are restored
+abbrev pub linkAddressesOf : Arrival → LinkAddresses
+linkAddressesOf a = record { src = AddressField.Some (a .src); dst = AddressField.Some (a .dst) }
 
 -- the link-layer addresses, from which a compressed header's elided ones are restored
 abbrev pub linkAddressesOf : Arrival → LinkAddresses
@@ -118,6 +123,35 @@ payload ctx a s = andThen (dispatch s (a .payload .at)) (λ k. byKind k ctx a s)
 unfoldable pub payloadIn : List ℕ → List ℕ → Arrival → List ℕ → Answer Brought
 payloadIn room ctx a s = choose (leb 455 (length room)) (payload ctx a s) (refused 7)
 
+-- ---- what it begins with
+-- what is expanded, of the size and tag of its key, or of no size: a first part, or a whole datagram
+abbrev pub expanded : WordField → ℕ → Expansion → Brought
+expanded WordField.None tag e = datagram (e .bytes) (e .sum)
+expanded (WordField.Some size) tag e = part size tag 0 (e .bytes) (e .sum)
+
+-- the answer for it, of n bytes
+abbrev pub expandedTo : WordField → ℕ → ℕ → UdpSum → Payload
+expandedTo WordField.None tag n m = Payload.Whole n m
+expandedTo (WordField.Some size) tag n m = Payload.First size tag n m
+
+-- what a payload that begins so brings
+abbrev pub behind : Head → List ℕ → Arrival → List ℕ → Answer Brought
+behind (Head.Compressed c size tag) ctx a s =
+    andThen (expansion ctx (linkAddressesOf a .src) (linkAddressesOf a .dst) size s (c .at)) (λ e. is (expanded size tag e))
+behind (Head.Later size tag o from) ctx a s = is (part size tag (o .0) (drop from s) noSum)
+behind (Head.Refused e) ctx a s = refused (numberOf e)
+
+-- a later part lies within the frame s, and not at its datagram's start
+abbrev pub LaterWithin : Head → List ℕ → Type 0
+LaterWithin (Head.Compressed c size tag) s = Unit {0}
+LaterWithin (Head.Later size tag o from) s = (from ≤ length s) × (1 ≤ o .0)
+LaterWithin (Head.Refused e) s = Unit {0}
+
+-- what begins so, brings b
+abbrev pub Begins : Head → List ℕ → Arrival → List ℕ → Answer Brought → Type 0
+Begins h ctx a s b = (behind h ctx a s ≡ b) × LaterWithin h s
+
+-- ---- the call
 -- what the answer points at lies within the scratch l and the frame s; a later part is not at the start
 abbrev pub Within : Payload → List ℕ → List ℕ → Type 0
 Within (Payload.Whole n m) l s = n ≤ length l

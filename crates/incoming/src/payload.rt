@@ -1,12 +1,16 @@
 // A frame's payload: a whole datagram, or a part of one.
-ghost use Prim.Native.Nat.{_≤_};
+ghost use mathlib.Core.Path.{_≡_};
+ghost use mathlib.Core.List.{List};
+ghost use Prim.Native.Nat.{ℕ, _≤_};
 ghost use lib.ListN.{length};
-ghost use Rattle.incoming.specs.Incoming.{Brings, whole, piece, fragment, payloadIn};
+ghost use Rattle.incoming.specs.Incoming.{Brings, Begins, expandedTo, piece, fragment, payload, payloadIn};
+ghost use Rattle.incoming.specs.declared.arrival.Arrival.{Arrival};
 use super::arrival::Arrival;
 use expand::Expanded;
 use expand::LONGEST;
 use expand::checksum::UdpSum;
-use expand::expand;
+use expand::copy::clear;
+use expand::fill;
 use octets::cursor::Cursor;
 use octets::field::WordField;
 use octets::refusal::Refusal;
@@ -37,50 +41,42 @@ pub enum Payload {
     Refused(Refusal),
 }
 
-// An unfragmented datagram.
-fn read_whole(frame: &[u8], a: Arrival, contexts: &[u8], scratch: &mut [u8]) -> Payload
-    requires { ⌜ 455 ≤ length (now scratch) ⌝ }
-    ensures { λ r. ⌜ Brings r (now (scratch .entry)) (now (scratch .exit)) (now (frame .entry))
-        (whole (now (contexts .entry)) a (now (frame .entry))) ⌝ }
-{
-    let ll = a.link_addresses();
-    match expand(frame, a.payload, ll, contexts, WordField::None, scratch) {
-        Expanded::Datagram { len, sum } => Payload::Whole { len, sum },
-        Expanded::Refused(e) => Payload::Refused(e),
-    }
+// What a payload begins with: a compressed header at a place, of a whole datagram (no size) or of a first part; or the
+// bytes of a later part.
+enum Head {
+    Compressed {
+        at: Cursor,
+        size: WordField,
+        tag: u16,
+    },
+    Later {
+        size: u16,
+        tag: u16,
+        offset: Units,
+        from: usize,
+    },
+    Refused(Refusal),
 }
 
 // A part, whose fragment header ends at `next`.
-fn read_part(
-    frame: &[u8],
-    a: Arrival,
-    h: frag::Repr,
-    next: Cursor,
-    contexts: &[u8],
-    scratch: &mut [u8],
-) -> Payload
-    requires { ⌜ (455 ≤ length (now scratch)) × (next .at ≤ length (now frame)) ⌝ }
-    ensures { λ r. ⌜ Brings r (now (scratch .entry)) (now (scratch .exit)) (now (frame .entry))
-        (piece (now (contexts .entry)) a h (next .at) (now (frame .entry))) ⌝ }
+fn part_head(h: frag::Repr, next: Cursor) -> Head
+    ensures { λ r. ⌜ ((ctx : List ℕ) (a : Arrival) (s : List ℕ) → next .at ≤ length s
+        → Begins r ctx a s (piece ctx a h (next .at) s)) ⌝ }
 {
     match h {
         frag::Repr::FirstFragment { size, tag } => {
-            let ll = a.link_addresses();
-            match expand(frame, next, ll, contexts, WordField::Some(size), scratch) {
-                Expanded::Datagram { len, sum } => Payload::First {
-                    size,
-                    tag,
-                    len,
-                    sum,
-                },
-                Expanded::Refused(e) => Payload::Refused(e),
+            let size = WordField::Some(size);
+            Head::Compressed {
+                at: next,
+                size,
+                tag,
             }
         }
         frag::Repr::Fragment { size, tag, offset } => {
             if offset.0 == 0 {
-                return Payload::Refused(Refusal::BadPart);
+                return Head::Refused(Refusal::BadPart);
             }
-            Payload::Later {
+            Head::Later {
                 size,
                 tag,
                 offset,
@@ -90,33 +86,86 @@ fn read_part(
     }
 }
 
-fn read_fragment(frame: &[u8], a: Arrival, contexts: &[u8], scratch: &mut [u8]) -> Payload
-    requires { ⌜ 455 ≤ length (now scratch) ⌝ }
-    ensures { λ r. ⌜ Brings r (now (scratch .entry)) (now (scratch .exit)) (now (frame .entry))
-        (fragment (now (contexts .entry)) a (now (frame .entry))) ⌝ }
+fn fragment_head(frame: &[u8], c: Cursor) -> Head
+    ensures { λ r. ⌜ ((ctx : List ℕ) (a : Arrival) → a .payload ≡ c
+        → Begins r ctx a (now (frame .entry)) (fragment ctx a (now (frame .entry)))) ⌝ }
 {
-    match frag::Repr::read(frame, a.payload) {
-        frag::Parsed::Header(h, next) => read_part(frame, a, h, next, contexts, scratch),
-        frag::Parsed::Refused(e) => Payload::Refused(e),
+    match frag::Repr::read(frame, c) {
+        frag::Parsed::Header(h, next) => part_head(h, next),
+        frag::Parsed::Refused(e) => Head::Refused(e),
+    }
+}
+
+// By its dispatch, a compressed header or a fragment header.
+fn read_head(frame: &[u8], c: Cursor) -> Head
+    ensures { λ r. ⌜ ((ctx : List ℕ) (a : Arrival) → a .payload ≡ c
+        → Begins r ctx a (now (frame .entry)) (payload ctx a (now (frame .entry)))) ⌝ }
+{
+    match SixlowpanPacket::dispatch_at(frame, c) {
+        DispatchAnswer::Is(kind) => match kind {
+            SixlowpanPacket::FragmentHeader => fragment_head(frame, c),
+            SixlowpanPacket::IphcHeader => {
+                let size = WordField::None;
+                Head::Compressed {
+                    at: c,
+                    size,
+                    tag: 0,
+                }
+            }
+        },
+        DispatchAnswer::Refused(e) => Head::Refused(e),
+    }
+}
+
+// What was expanded: a whole datagram, where there is no size, or a first part.
+fn expanded(size: WordField, tag: u16, len: usize, sum: UdpSum) -> Payload
+    ensures { λ r. ⌜ r ≡ expandedTo size tag len sum ⌝ }
+{
+    match size {
+        WordField::None => Payload::Whole { len, sum },
+        WordField::Some(size) => Payload::First {
+            size,
+            tag,
+            len,
+            sum,
+        },
     }
 }
 
 impl Payload {
-    // What stands behind the MAC header: by its dispatch, a compressed header or a fragment header.
-    // The scratch holds what is expanded: 7 where it is shorter than the longest expansion, 455 bytes.
+    // What stands behind the MAC header. The scratch holds what is expanded: 7 where it is shorter than the longest
+    // expansion, 455 bytes. Every refusal clears it.
     pub fn read(frame: &[u8], a: Arrival, contexts: &[u8], scratch: &mut [u8]) -> Payload
         ensures { λ r. ⌜ Brings r (now (scratch .entry)) (now (scratch .exit)) (now (frame .entry))
             (payloadIn (now (scratch .entry)) (now (contexts .entry)) a (now (frame .entry))) ⌝ }
     {
         if scratch.len() < LONGEST {
+            clear(scratch);
             return Payload::Refused(Refusal::NoRoom);
         }
-        match SixlowpanPacket::dispatch_at(frame, a.payload) {
-            DispatchAnswer::Is(kind) => match kind {
-                SixlowpanPacket::FragmentHeader => read_fragment(frame, a, contexts, scratch),
-                SixlowpanPacket::IphcHeader => read_whole(frame, a, contexts, scratch),
+        match read_head(frame, a.payload) {
+            Head::Compressed { at, size, tag } => {
+                let ll = a.link_addresses();
+                match fill(frame, at, ll, contexts, size, scratch) {
+                    Expanded::Datagram { len, sum } => expanded(size, tag, len, sum),
+                    Expanded::Refused(e) => Payload::Refused(e),
+                }
+            }
+            Head::Later {
+                size,
+                tag,
+                offset,
+                from,
+            } => Payload::Later {
+                size,
+                tag,
+                offset,
+                from,
             },
-            DispatchAnswer::Refused(e) => Payload::Refused(e),
+            Head::Refused(e) => {
+                clear(scratch);
+                Payload::Refused(e)
+            }
         }
     }
 }

@@ -65,7 +65,7 @@ handed =
 brought : frameCall gates [] 0 (frameFrom 0x01 0x00 .frame) ≡ other 0 (Parts.out handed)
 unfolding frameCall admitted welcome arrival framed relay meshField broadcastField payload whole dispatch dispatchOf mac header byte le16 sequence headerRest afterControl supported saysElements omitsSequence addressing hasAddressing sides side carried carried01 panField addressField auxiliary reprOf sequenceOf hasSequence isGate sameSource sameNode present addressed count tested holds
 brought =
-    ap (λ (e : Answer Expansion). brings 0 (record { src = Short 1; pan = PanField.Some (record { 0 = 0xabcd }); dst = Short 0xffff; at = 9 }) (andThen e (λ (x : Expansion). is (datagram (x .bytes) (x .sum))))) printed-example
+    ap (λ (e : Answer Expansion). brings 0 (record { src = Short 1; pan = PanField.Some (record { 0 = 0xabcd }); dst = Short 0xffff; payload = record { at = 9 } }) (andThen e (λ (x : Expansion). is (datagram (x .bytes) (x .sum))))) printed-example
 
 turned-away : frameCall gates [] 0 (frameFrom 0x34 0x12 .frame) ≡ other 0 (Parts.refused 9)
 unfolding frameCall admitted welcome arrival framed relay meshField broadcastField mac header byte le16 sequence headerRest afterControl supported saysElements omitsSequence addressing hasAddressing sides side carried carried01 panField addressField auxiliary reprOf sequenceOf hasSequence isGate sameSource sameNode present addressed count

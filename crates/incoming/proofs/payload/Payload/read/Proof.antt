@@ -3,38 +3,53 @@ use borrow.Author.Needs.{needs}
 use Rattle.incoming.proofs.payload.Payload.read.Statement.{statement}
 use Rattle.incoming.proofs.payload.Payload.read.Tie as tie
 
-returns : tie.Need-returns
-returns c = search payloads
-
-dispatch-at-requires : tie.Need-dispatch-at-requires
-dispatch-at-requires c κs = search needs
-
-enum-known-kind : tie.Need-enum-known-kind
-enum-known-kind c = search needs
-
-enum-told : tie.Need-enum-told
-enum-told c = search needs
-
-read-fragment-requires : tie.Need-read-fragment-requires
-read-fragment-requires c κs = search needs
-
-enum-told-2 : tie.Need-enum-told-2
-enum-told-2 c = search needs
-
-read-whole-requires : tie.Need-read-whole-requires
-read-whole-requires c κs = search needs
-
-enum-known-e : tie.Need-enum-known-e
-enum-known-e c = search needs
+clear-requires : tie.Need-clear-requires
+clear-requires c κs = search needs
 
 same-length : tie.Need-same-length
 same-length c = search needs
 
-returns-2 : tie.Need-returns-2
-returns-2 c = search payloads
+returns : tie.Need-returns
+returns c = search payloads
+
+read-head-requires : tie.Need-read-head-requires
+read-head-requires c κs = search needs
+
+enum-known-at : tie.Need-enum-known-at
+enum-known-at c = search needs
+
+link-addresses-requires : tie.Need-link-addresses-requires
+link-addresses-requires c κs = search needs
+
+fill-requires : tie.Need-fill-requires
+fill-requires c κs = search needs
+
+enum-known-len : tie.Need-enum-known-len
+enum-known-len c = search needs
+
+expanded-requires : tie.Need-expanded-requires
+expanded-requires c κs = search needs
+
+enum-known-e : tie.Need-enum-known-e
+enum-known-e c = search needs
+
+enum-known-size : tie.Need-enum-known-size
+enum-known-size c = search needs
+
+enum-known-e-2 : tie.Need-enum-known-e-2
+enum-known-e-2 c = search needs
+
+clear-requires-2 : tie.Need-clear-requires-2
+clear-requires-2 c κs = search needs
 
 same-length-2 : tie.Need-same-length-2
 same-length-2 c = search needs
+
+returns-2 : tie.Need-returns-2
+returns-2 c = search payloads
+
+same-length-3 : tie.Need-same-length-3
+same-length-3 c = search needs
 
 returns-3 : tie.Need-returns-3
 returns-3 c = search payloads
@@ -42,20 +57,33 @@ returns-3 c = search payloads
 returns-4 : tie.Need-returns-4
 returns-4 c = search payloads
 
+same-length-4 : tie.Need-same-length-4
+same-length-4 c = search needs
+
+returns-5 : tie.Need-returns-5
+returns-5 c = search payloads
+
 pub read-spec : {M : Type 1} → statement M
 read-spec =
     tie.close
     (tie.spec
-    returns
-    dispatch-at-requires
-    enum-known-kind
-    enum-told
-    read-fragment-requires
-    enum-told-2
-    read-whole-requires
-    enum-known-e
+    clear-requires
     same-length
-    returns-2
+    returns
+    read-head-requires
+    enum-known-at
+    link-addresses-requires
+    fill-requires
+    enum-known-len
+    expanded-requires
+    enum-known-e
+    enum-known-size
+    enum-known-e-2
+    clear-requires-2
     same-length-2
+    returns-2
+    same-length-3
     returns-3
-    returns-4)
+    returns-4
+    same-length-4
+    returns-5)
