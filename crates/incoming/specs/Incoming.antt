@@ -94,10 +94,6 @@ scratchAfter (refused n) room = replicate (length room) 0
 abbrev pub linkAddressesOf : Arrival → LinkAddresses
 linkAddressesOf a = record { src = AddressField.Some (a .src); dst = AddressField.Some (a .dst) }
 
--- the link-layer addresses, from which a compressed header's elided ones are restored
-abbrev pub linkAddressesOf : Arrival → LinkAddresses
-linkAddressesOf a = record { src = AddressField.Some (a .src); dst = AddressField.Some (a .dst) }
-
 -- an unfragmented datagram is expanded
 unfoldable pub whole : List ℕ → Arrival → List ℕ → Answer Brought
 whole ctx a s = andThen (expansion ctx (linkAddressesOf a .src) (linkAddressesOf a .dst) WordField.None s (a .payload .at)) (λ e. is (datagram (e .bytes) (e .sum)))
