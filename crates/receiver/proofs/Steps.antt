@@ -7,10 +7,11 @@ use lib.ListN.{length, take, drop, length-drop}
 use lib.Seq.{take-all}
 use borrow.Author.Tests.{le-leb}
 use native.Mathlib.Omega.{arith}
-use Rattle.octets.specs.Read.{Answer, is, refused}
+use Rattle.octets.specs.Read.{Answer, is, refused, andThen}
 use Rattle.octets.specs.Refusal.{numberOf}
 use Rattle.octets.specs.Write.{put}
 use Rattle.octets.specs.declared.refusal.Refusal.{Refusal}
+use Rattle.octets.proofs.Spans.{not-refused}
 use Rattle.octets.specs.declared.refusal.Refusal.the-variants.{NotGateway, NoAddress, BadChecksum}
 use Rattle.expand.specs.Sum.{noSum, holds, holdsIn}
 use Rattle.expand.specs.declared.checksum.UdpSum.{UdpSum}
@@ -20,16 +21,15 @@ use Rattle.incoming.specs.declared.arrival.ArrivalAnswer.{ArrivalAnswer}
 use Rattle.incoming.specs.declared.payload.Payload.{Payload}
 use Rattle.incoming.proofs.Steps.{on-arrival, no-arrival, in-room}
 use Rattle.sixlowpan.specs.declared.frag.Units.{Units}
-use Rattle.reassembly.specs.Slots.{nodeOf, addressed, isGate}
+use Rattle.reassembly.specs.Slots.{nodeOf, addressed, owner, isGate}
 use Rattle.reassembly.specs.Parts as Parts
 use Rattle.reassembly.specs.Parts.{partOf}
-use Rattle.reassembly.specs.Table as Table
-use Rattle.reassembly.specs.Table.{other}
 use Rattle.reassembly.specs.declared.part.Outcome.{Outcome}
 use Rattle.reassembly.specs.declared.slot.Source.{Source}
 use Rattle.reassembly.specs.declared.slot.Key.{Key}
-use Rattle.receiver.specs.Receive.{senderOf, keyOf, welcome, admitted, tested, brings, carries, frameCall}
-use Rattle.receiver.specs.Steps.{HandsOver}
+use Rattle.reassembly.proofs.Tests.{by-test}
+use Rattle.receiver.specs.Receive.{senderOf, keyOf, content, tested, brings, frameCall}
+use Rattle.receiver.specs.Steps.{welcome, admitted, GateSays, GateBrings, HandsOver}
 
 -- ---- who sends it to whom
 module _ (gs : List Source) (s : List ℕ) (y : ArrivalAnswer) (p : ofArrival y ≡ arrival s) where
@@ -51,30 +51,55 @@ module _ (gs : List Source) (s : List ℕ) (y : ArrivalAnswer) (p : ofArrival y 
   unfolding admitted
   no-sender e q = no-arrival (arrival s) (λ x. welcome gs x) p q
 
+-- the frame s was let in: it is a gateway's, to somebody
+pub record LetIn (gs : List Source) (s : List ℕ) (a : Arrival) : Type 0 where
+  pub arrives : arrival s ≡ is a
+  pub known : isGate (senderOf a) gs ≡ true
+  pub to : addressed (nodeOf (a .dst)) ≡ true
+
+one : (a b : Arrival) → _≡_ {A = Answer Arrival} (is a) (is b) → b ≡ a
+one a b e = cc
+
+was-let-in : (gs : List Source) (s : List ℕ) (a : Arrival) → is a ≡ admitted gs s → LetIn gs s a
+unfolding admitted welcome
+was-let-in gs s a e = go (arrival s) refl e
+  where
+    go : (r : Answer Arrival) → arrival s ≡ r → is a ≡ andThen r (λ x. welcome gs x) → LetIn gs s a
+    go (is b) q e = by-test (isGate (senderOf b) gs)
+        (λ k. by-test (addressed (nodeOf (b .dst)))
+        (λ d.
+        let z = one a b (rw (k, d) at e) in
+        record { arrives = q ∙ ap is z; known = rw z at k; to = rw z at d })
+        (λ d. not-refused a 6 (sym (rw (k, d) at e))))
+        (λ k. not-refused a 9 (sym (rw k at e)))
+    go (refused n) q e = not-refused a n (sym e)
+
 -- ---- what it brings
-module _ (gs : List Source) (ctx s : List ℕ) (y : ArrivalAnswer) (p : ofArrival y ≡ admitted gs s) where
-  pub frame-none : (e : Refusal) → y ≡ ArrivalAnswer.Refused e → (t : ℕ) → frameCall gs ctx t s ≡ other t (Parts.refused (numberOf e))
-  unfolding frameCall
-  frame-none e q t = ap (λ z. carries t ctx s z) (sym p ∙ ap ofArrival q)
+module _ (gs : List Source) (ctx s : List ℕ) (y : ArrivalAnswer) (p : ofArrival y ≡ admitted gs s) (a : Arrival) (q : y ≡ ArrivalAnswer.Is a) (r : Payload) (room l : List ℕ) (big : 455 ≤ length room) (b : Brings r room l s (payloadIn room ctx a s)) (t : ℕ) where
+  came : LetIn gs s a
+  came = was-let-in gs s a (sym (ap ofArrival q) ∙ p)
 
-  module _ (a : Arrival) (q : y ≡ ArrivalAnswer.Is a) (r : Payload) (room l : List ℕ) (big : 455 ≤ length room) (b : Brings r room l s (payloadIn room ctx a s)) (t : ℕ) where
-    frame-brings : {x : Answer Brought} → x ≡ payloadIn room ctx a s → frameCall gs ctx t s ≡ brings t a x
-    unfolding frameCall
-    frame-brings e = ap (λ z. carries t ctx s z) (sym p ∙ ap ofArrival q) ∙ ap (λ z. brings t a z) (sym (e ∙ in-room room ctx a s big))
+  frame-brings : {x : Answer Brought} → x ≡ payloadIn room ctx a s → frameCall ctx t s ≡ brings t a x
+  unfolding frameCall content
+  frame-brings e = rw (came .arrives, came .to) (ap (λ z. brings t a z) (sym (e ∙ in-room room ctx a s big)))
 
-    pub frame-whole : (n : ℕ) (el : UdpSum) → r ≡ Payload.Whole n el → frameCall gs ctx t s ≡ other t (tested el (take n l))
-    frame-whole n el e = frame-brings (rw e at (b .answer))
+  pub frame-whole : (n : ℕ) (el : UdpSum) → r ≡ Payload.Whole n el → GateSays gs ctx t s (tested el (take n l))
+  frame-whole n el e = (senderOf a, came .known, frame-brings (rw e at (b .answer)))
 
-    pub frame-refused : (e : Refusal) → r ≡ Payload.Refused e → frameCall gs ctx t s ≡ other t (Parts.refused (numberOf e))
-    frame-refused x e = frame-brings (rw e at (b .answer))
+  pub frame-refused : (e : Refusal) → r ≡ Payload.Refused e → GateSays gs ctx t s (Parts.refused (numberOf e))
+  frame-refused x e = (senderOf a, came .known, frame-brings (rw e at (b .answer)))
 
-    -- a part under the key k
-    module _ (size tag : ℕ) (k : Key) (key : k ≡ keyOf a size tag) where
-      pub frame-first : (n : ℕ) (el : UdpSum) → r ≡ Payload.First size tag n el → frameCall gs ctx t s ≡ Table.part t (partOf k 0 el (take n l))
-      frame-first n el e = frame-brings (rw e at (b .answer)) ∙ ap (λ z. Table.part t (partOf z 0 el (take n l))) (sym key)
+  -- a part under the key k
+  module _ (size tag : ℕ) (k : Key) (key : k ≡ keyOf a size tag) where
+    known : isGate (owner k) gs ≡ true
+    unfolding keyOf
+    known = rw key (came .known)
 
-      pub frame-later : (u : Units) (from : ℕ) → r ≡ Payload.Later size tag u from → (bs : List ℕ) → bs ≡ drop from s → frameCall gs ctx t s ≡ Table.part t (partOf k (u .0) noSum bs)
-      frame-later u from e bs w = frame-brings (rw e at (b .answer)) ∙ ap₂ (λ z x. Table.part t (partOf z (u .0) noSum x)) (sym key) (sym w)
+    pub frame-first : (n : ℕ) (el : UdpSum) → r ≡ Payload.First size tag n el → GateBrings gs ctx t s (partOf k 0 el (take n l))
+    frame-first n el e = (known, rw key (frame-brings (rw e at (b .answer))))
+
+    pub frame-later : (u : Units) (from : ℕ) → r ≡ Payload.Later size tag u from → (bs : List ℕ) → bs ≡ drop from s → GateBrings gs ctx t s (partOf k (u .0) noSum bs)
+    frame-later u from e bs w = (known, rw (key, w) (frame-brings (rw e at (b .answer))))
 
 -- the part of s from a place on, as a slice has it
 pub rest-is : (from : ℕ) (s : List ℕ) → take (length s - from) (drop from s) ≡ drop from s
