@@ -35,7 +35,6 @@ use Rattle.reassembly.specs.Parts as Parts
 use Rattle.reassembly.specs.Parts.{Reply, outputAfter}
 use Rattle.reassembly.specs.Table.{Call, State, Result, from, slotsAt, aged, withSlots, pass, fromGate, takePart, step, lentCall}
 use Rattle.reassembly.specs.Fresh.{gateOf, seats, fresh}
-use Rattle.reassembly.specs.declared.slot.Source.{Source}
 use Rattle.ieee802154.specs.declared.addr.PanField.{PanField}
 use Rattle.receiver.specs.Receive.{keyOf, content, brings, frameCall, callOf, tested}
 use Rattle.listen.specs.Lines.{widthIn, decimal, endLine}
@@ -51,9 +50,6 @@ frameFrom lo hi = record {
 
 abbrev pub frames : List Timed
 frames = frameFrom 0x01 0x00 ∷ frameFrom 0x34 0x12 ∷ []
-
-abbrev gates : List Source
-gates = gateOf (listedAs 1) ∷ gateOf (listedAs 2) ∷ gateOf (listedAs 3) ∷ gateOf (listedAs 4) ∷ []
 
 -- the datagram of the first: fe80::ff:fe00:1 to fe80::ff:fe00:ffff, and four bytes of ICMPv6
 abbrev handed : List ℕ
@@ -85,20 +81,16 @@ module _ (m : List ℕ) (M : 16384 ≤ length m) where
   abbrev after : ℕ → List ℕ → Listener
   after n o = record { ear = record { table = starting .table; frames = n; block = 0 }; mem = m; out = o }
 
-  abbrev passed : Reply (List ℕ) → Result
-  passed a = record { reply = a; state = record { table = starting .table; mem = m }; opens = 0; ends = 0; took = false }
-
   abbrev at-first : State
   at-first = record { table = starting .table; mem = m }
 
-  nothing-kept : (g : Source) (a : Reply (List ℕ)) → step at-first (from 0 g a) ≡ passed (fromGate g gates a)
-  unfolding step pass withSlots slotsAt aged expire expire1 expired count gatesOf those present addressed starting fresh seats freeSlot noKey noSource noNode
-  nothing-kept g a = refl
+  abbrev passed : Reply (List ℕ) → Result
+  passed a = record { reply = a; state = record { table = starting .table; mem = m }; opens = 0; ends = 0; took = false }
 
   -- a gateway's is answered; a stranger's is refused, 9, whatever it is
   answered : step at-first (from 0 (gateOf (listedAs 1)) (Parts.out handed)) ≡ passed (Parts.out handed)
-  unfolding fromGate isGate sameSource sameNode count
-  answered = nothing-kept (gateOf (listedAs 1)) (Parts.out handed)
+  unfolding step pass withSlots slotsAt aged expire expire1 expired count gatesOf those present addressed starting fresh seats freeSlot noKey noSource noNode fromGate isGate sameSource sameNode
+  answered = refl
 
   turned-away : (b : Answer Brought) → step at-first (brings 0 (arrives 0x1234) b) ≡ passed (Parts.refused 9)
   unfolding step takePart pass withSlots slotsAt aged expire expire1 expired count gatesOf those present addressed starting fresh seats freeSlot noKey noSource noNode fromGate isGate sameSource sameNode keyOf

@@ -3,7 +3,7 @@ use Prim.Native.Nat.{ℕ, _+_, _≤_}
 use native.Mathlib.Omega.{arith}
 use mathlib.Core.Path.{_≡_, refl, sym, ap, _∙_}
 use mathlib.Core.Logic.{_⊎_, inl, inr}
-use mathlib.Core.Bool.{true, false}
+use mathlib.Core.Bool.{false}
 use mathlib.Core.List.{List, [], _∷_, _++_, map, map-append, append-nil}
 use lib.ListN.{length, drop}
 use Rattle.octets.specs.Read.{is}
@@ -16,7 +16,7 @@ use Rattle.reassembly.specs.declared.slot.Source.{Source}
 use Rattle.reassembly.specs.declared.slot.Key.{Key}
 use Rattle.reassembly.specs.declared.part.Outcome.{Outcome}
 use Rattle.reassembly.proofs.Parts.{length-finish}
-use Rattle.reassembly.proofs.Runs.{Good, step-did, did-good, did-length, gates-fresh, fresh-good, run-good, run-gates, comes-one, comes-brought, comes-part}
+use Rattle.reassembly.proofs.Runs.{Good, step-did, did-good, gates-fresh, fresh-good, run-good, run-gates, run-length, comes-one, comes-brought, comes-part}
 use Rattle.reassembly.proofs.Lent.{room-part, lent-room}
 use Rattle.reassembly.proofs.Promises.{three, tally, outcome-one}
 use Rattle.reassembly.proofs.Promises as Table
@@ -357,11 +357,6 @@ module _ (gs : List Source) (m : List ℕ) (k : Key) (d : List ℕ) (C : Cutting
     hands-out z = concluded (replies (ran-went (past ++ (mid ++ (c ∷ []))) (begun gs m) R) z)
 
 -- ---- companions, over every run from a fresh table; a run up to any moment is a run (`ran-left`)
-
-run-length : (cs : List Call) (σ : State) → Good σ → length (run σ cs .mem) ≡ length (σ .mem)
-unfolding run next
-run-length [] σ G = refl
-run-length (c ∷ cs) σ G = run-length cs (next σ c) (good-next σ c G) ∙ did-length σ (step-did σ c G)
 
 made-small : (k : Key) (ps : List Part) (d : List ℕ) → MadeOf k ps d → length d ≤ 2047
 made-small k ps d M = omega (arith, ap length (M .made), length-finish (M .sum) (M .d₀), M .sized, M .bounded)

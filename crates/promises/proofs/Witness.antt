@@ -48,16 +48,11 @@ unfolding sources unfit refusedList count sameSource sameNode present addressed
 listed neighbour = accepted 2 (listedAs 1 0xabcd ∷ listedAs 2 0xabcd ∷ []) (lit≤ tt) refl
 listed building = accepted 2 (listedAs 1 0xabcd ∷ listedAs 1 0x1234 ∷ []) (lit≤ tt) refl
 
--- and both senders are of them
-old-gate : (w : Other) → isGate (old-key .src) (gateways w) ≡ true
+-- and the two who send are of them
+both-listed : (w : Other) → (isGate (old-key .src) (gateways w) ≡ true) × (isGate (new-key w .src) (gateways w) ≡ true)
 unfolding isGate count sameSource sameNode
-old-gate neighbour = refl
-old-gate building = refl
-
-new-gate : (w : Other) → isGate (new-key w .src) (gateways w) ≡ true
-unfolding isGate count sameSource sameNode
-new-gate neighbour = refl
-new-gate building = refl
+both-listed neighbour = (refl, refl)
+both-listed building = (refl, refl)
 
 -- ---- calls as the specification answers them
 
@@ -260,7 +255,7 @@ module _ (w : Other) (m : List ℕ) (enough : 16384 ≤ length m) (o : List ℕ)
     gateways = listed w;
     enough = enough;
     forward = (lit≤ tt, (lit≤ tt, (lit≤ tt, tt)));
-    gate = old-gate w;
+    gate = both-listed w .0;
     first = h₁;
     then = h₂ ∷ h₃ ∷ [];
     earliest = refl;
@@ -277,7 +272,7 @@ module _ (w : Other) (m : List ℕ) (enough : 16384 ≤ length m) (o : List ℕ)
     gateways = listed w;
     enough = enough;
     forward = (lit≤ tt, (lit≤ tt, (lit≤ tt, (lit≤ tt, tt))));
-    gate = new-gate w;
+    gate = both-listed w .1;
     first = h₂;
     then = h₃ ∷ h₄ ∷ [];
     earliest = refl;
@@ -394,7 +389,7 @@ module _ (w : Other) (m : List ℕ) (enough : 16384 ≤ length m) (o : List ℕ)
     gateways = listed w;
     enough = enough;
     forward = (lit≤ tt, (lit≤ tt, (lit≤ tt, tt)));
-    gate = old-gate w;
+    gate = both-listed w .0;
     first = e₁;
     then = e₂ ∷ e₃ ∷ [];
     earliest = refl;
@@ -471,7 +466,7 @@ module _ (w : Other) (m : List ℕ) (enough : 16384 ≤ length m) (o : List ℕ)
     gateways = listed w;
     enough = enough;
     forward = (lit≤ tt, (lit≤ tt, tt));
-    gate = old-gate w;
+    gate = both-listed w .0;
     first = r₁;
     then = r₂ ∷ [];
     earliest = refl;

@@ -15,7 +15,7 @@ use Rattle.expand.proofs.CopyLaws.{length-put}
 use Rattle.reassembly.specs.Slots.{owner, freeSlot, opened, gatesOf, isGate, mayOpen}
 use Rattle.reassembly.specs.Parts.{Part, Reply, kept, refused, fits, repeats, taken, written, full, Put, place, offer}
 use Rattle.reassembly.specs.Table as Table
-use Rattle.reassembly.specs.Table.{Call, short, other, part, State, Result, chunk, splice, untouched, slotsAt, pass, land, whereKey, whereFree, offerAt, openAt, fromGate, takePart, timely, step}
+use Rattle.reassembly.specs.Table.{Call, short, other, part, State, Result, chunk, splice, untouched, slotsAt, pass, land, whereKey, whereFree, offerAt, openAt, takePart, step}
 use Rattle.reassembly.specs.declared.slot.Slot.{Slot}
 use Rattle.reassembly.specs.declared.slot.Source.{Source}
 use Rattle.reassembly.proofs.Tests.{no-both, by-test, by-order}
@@ -173,15 +173,12 @@ part-writes σ t p =
     (pass-writes σ t (refused 10) (part t p)))
     (pass-writes σ t (refused 9) (part t p))
 
-timely-writes : (σ : State) (t : ℕ) (c : Call) (r : Result) → Wrote σ c r → Wrote σ c (timely σ t r)
-timely-writes σ t c r = either (Wrote σ c) (ltb t (σ .table .last)) _ _ (λ h. untouched-writes σ 8 c)
-
 pub step-writes : (σ : State) (c : Call) → Wrote σ c (step σ c)
 unfolding step
 step-writes σ short = untouched-writes σ 7 short
-step-writes σ (other t a) = timely-writes σ t _ _ (pass-writes σ t a (other t a))
-step-writes σ (Table.from t g a) = timely-writes σ t _ _ (pass-writes σ t (fromGate g (gatesOf (σ .table)) a) (Table.from t g a))
-step-writes σ (part t p) = timely-writes σ t _ _ (part-writes σ t p)
+step-writes σ (other t a) = either (Wrote σ _) (ltb t (σ .table .last)) _ _ (λ h. untouched-writes σ 8 _) (pass-writes σ t a _)
+step-writes σ (Table.from t g a) = either (Wrote σ _) (ltb t (σ .table .last)) _ _ (λ h. untouched-writes σ 8 _) (pass-writes σ t _ _)
+step-writes σ (part t p) = either (Wrote σ _) (ltb t (σ .table .last)) _ _ (λ h. untouched-writes σ 8 _) (part-writes σ t p)
 
 -- what is not taken, a repeat among it, writes nothing
 pub untaken-unwritten : (gs : List Source) (c : Call) (m m′ : List ℕ) (took : Bool) → Writes gs c m m′ took → took ≡ false → m′ ≡ m

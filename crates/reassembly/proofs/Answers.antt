@@ -13,7 +13,7 @@ use borrow.Author.Tests.{ltb-false, lt-ltb, le-ltb, leb-true}
 use Rattle.reassembly.specs.Lists.{count, firstAt, those}
 use Rattle.reassembly.specs.Slots.{present, owner, freeSlot, opened, isFree, isKey, expired, expire1, expire, gatesOf, isGate, free, mayOpen, opening}
 use Rattle.reassembly.specs.Parts.{Part, Reply, refused, fitsIn, fits, Put, place, offer, Placeable}
-use Rattle.reassembly.specs.Table.{Call, State, Result, other, from, part, short, chunk, splice, withSlots, untouched, slotsAt, pass, land, whereKey, whereFree, offerAt, openAt, fromGate, takePart, timely, step, lentCall, At, Plain, Aged}
+use Rattle.reassembly.specs.Table.{Call, State, Result, other, from, part, short, chunk, splice, withSlots, untouched, slotsAt, pass, land, whereKey, whereFree, offerAt, openAt, fromGate, takePart, step, lentCall, At, Aged}
 use Rattle.reassembly.specs.declared.slot.Key.{Key}
 use Rattle.reassembly.specs.declared.slot.Slot.{Slot}
 use Rattle.reassembly.specs.declared.slot.Source.{Source}
@@ -167,26 +167,20 @@ module _ (tb : Table) (m o : List ℕ) (t : ℕ) (c : Call) where
   leaves-8 enough a h = rw (enough, earlier tb m t c a h) record { reply = refl; table = refl; memory = refl }
 
 -- a call that brings no part: the time is taken, old slots are freed, and it is answered
-pub plain-pass : (σ : State) (c : Call) (t : ℕ) → Plain c t → σ .table .last ≤ t → (a : Reply (List ℕ)) × (step σ c ≡ pass σ t a)
-unfolding step
-plain-pass σ short t e h = absurd e
-plain-pass σ (other u a) t e h = (a, rw (e, le-ltb t (σ .table .last) h))
-plain-pass σ (from u g a) t e h = (fromGate g (gatesOf (σ .table)) a, rw (e, le-ltb t (σ .table .last) h))
-plain-pass σ (part u p) t e h = absurd e
-
 module _ (tb : Table) (m o : List ℕ) (t : ℕ) (enough : (ltb (length m) 16384 || ltb (length o) 2047) ≡ false) (late : tb .last ≤ t) (x : Table) (e : x ≡ withSlots tb t (expire t (tb .slots))) where
-  leaves-plain : (c : Call) (a : Reply (List ℕ)) → step (state tb m) c ≡ timely (state tb m) t (pass (state tb m) t a) → Leaves (step (state tb m) (lentCall m o c)) a x m
-  unfolding lentCall pass slotsAt
-  leaves-plain c a q = rw (enough, q, le-ltb t (tb .last) late) record { reply = refl; table = e; memory = refl }
-
   pub leaves-other : (a : Reply (List ℕ)) → Leaves (step (state tb m) (lentCall m o (other t a))) a x m
-  unfolding step
-  leaves-other a = leaves-plain (other t a) a refl
+  unfolding step lentCall pass slotsAt
+  leaves-other a = rw (enough, le-ltb t (tb .last) late) record { reply = refl; table = e; memory = refl }
 
-  -- where it has a sender, 9 comes before its answer
-  pub leaves-from : (g : Source) (a : Reply (List ℕ)) → Leaves (step (state tb m) (lentCall m o (from t g a))) (fromGate g (gatesOf tb) a) x m
-  unfolding step
-  leaves-from g a = leaves-plain (from t g a) (fromGate g (gatesOf tb) a) refl
+-- what a gateway sends is answered as if nobody asked who sends it
+pub from-gate : (σ : State) (t : ℕ) (g : Source) (a : Reply (List ℕ)) → isGate g (gatesOf (σ .table)) ≡ true → step σ (from t g a) ≡ step σ (other t a)
+unfolding step fromGate
+from-gate σ t g a k = rw k refl
+
+-- what is the same to the table is so with what is lent
+pub lent-same : (σ : State) (m o : List ℕ) (c d : Call) → step σ c ≡ step σ d → step σ (lentCall m o c) ≡ step σ (lentCall m o d)
+unfolding lentCall
+lent-same σ m o c d q = by-test (ltb (length m) 16384 || ltb (length o) 2047) (λ e. rw e refl) (λ e. rw e q)
 
 -- a part
 module _ (tb : Table) (m o : List ℕ) (t : ℕ) (p : Part) where
@@ -222,10 +216,6 @@ module _ (tb : Table) (m o : List ℕ) (t : ℕ) (p : Part) where
           → Leaves (step (state tb m) (lentCall m o (part t p))) (q .reply) (record { slots = set (x .slots) i (q .slot); last = t; gateways = x .gateways }) (splice m i (q .bytes))
       unfolding land
       leaves-land i n q e = rw e record { reply = refl; table = table-with i (q .slot); memory = refl }
-
-      pub leaves-9 : isGate (owner (p .key)) (gatesOf tb) ≡ false → Leaves (step (state tb m) (lentCall m o (part t p))) (refused 9) (record { slots = x .slots; last = t; gateways = x .gateways }) m
-      unfolding takePart
-      leaves-9 h = leaves-pass 9 (timed ∙ rw h)
 
       module _ (known : isGate (owner (p .key)) (those present (x .gateways)) ≡ true) where
         step-10 : fits p ≡ false → step (state tb m) (lentCall m o (part t p)) ≡ pass (state tb m) t (refused 10)

@@ -496,3 +496,8 @@ pub run-gates : (cs : List Call) (σ : State) → Good σ → gatesOf (run σ cs
 unfolding run next
 run-gates [] σ G = refl
 run-gates (c ∷ cs) σ G = run-gates cs (next σ c) (did-good σ G (step-did σ c G)) ∙ did-gates σ (step-did σ c G)
+
+pub run-length : (cs : List Call) (σ : State) → Good σ → length (run σ cs .mem) ≡ length (σ .mem)
+unfolding run next
+run-length [] σ G = refl
+run-length (c ∷ cs) σ G = run-length cs (next σ c) (did-good σ G (step-did σ c G)) ∙ did-length σ (step-did σ c G)

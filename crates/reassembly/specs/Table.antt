@@ -175,13 +175,6 @@ At (other u a) t = u ≡ t
 At (from u g a) t = u ≡ t
 At (part u p) t = u ≡ t
 
--- a call at t that brings no part
-abbrev pub Plain : Call → ℕ → Type 0
-Plain short t = ⊥
-Plain (other u a) t = u ≡ t
-Plain (from u g a) t = u ≡ t
-Plain (part u p) t = ⊥
-
 -- the clock after a call, where it was n
 abbrev pub after : ℕ → Call → ℕ
 after n short = n

@@ -1,9 +1,8 @@
 -- What a frame brings: its own time, and where it brings a part, one under the key that its headers name.
-use Prim.Native.Nat.{ℕ, _≤_}
+use Prim.Native.Nat.{ℕ}
 use native.Mathlib.Omega.{arith}
 use mathlib.Core.Path.{_≡_, refl, sym, ap, ap₂, _∙_}
-use mathlib.Core.Logic.{_⊎_, inl, inr}
-use mathlib.Core.Bool.{true, false}
+use mathlib.Core.Logic.{_⊎_}
 use mathlib.Core.List.{List}
 use lib.ListN.{length}
 use Rattle.octets.specs.Read.{Answer, is, refused}
@@ -21,7 +20,7 @@ use Rattle.reassembly.specs.Table.{Call, short, other, from, part, roomCall, le
 use Rattle.reassembly.specs.declared.table.Table.{Table}
 use Rattle.reassembly.specs.declared.slot.Key.{Key}
 use Rattle.reassembly.proofs.Tests.{by-test}
-use Rattle.reassembly.proofs.Lent.{not-other, not-from, room-after, room-part}
+use Rattle.reassembly.proofs.Lent.{not-part, room-after, room-part}
 use Rattle.reassembly.proofs.Runs.{at-after}
 use Rattle.reassembly.proofs.Sized.{Sized, SizedCall, lent-sized}
 use Rattle.receiver.specs.Receive.{keyOf, content, tested, brings, carries, frameCall, callOf}
@@ -57,22 +56,22 @@ module _ (ctx : List ℕ) (t : ℕ) (s : List ℕ) (u : ℕ) (p : Part) where
   brings-part a q e = go (payload ctx a s) refl e
     where
       go : (r : Answer Brought) → payload ctx a s ≡ r → brings t a r ≡ part u p → Comes t s u p
-      go (is (datagram d m)) f e = not-from t u _ _ p e
+      go (is (datagram d m)) f e = not-part _ u p refl e
       go (is (Incoming.part size tag v bs el)) f e =
           let k : keyOf a size tag ≡ p .key = ap (keyIn (keyOf a size tag)) e in
           record {
             time = sym (ap timeIn e);
             name = named-is s a size tag q (part-header ctx a s size tag v bs el f) ∙ ap is k;
           }
-      go (refused n) f e = not-from t u _ _ p e
+      go (refused n) f e = not-part _ u p refl e
 
   pub frame-part : frameCall ctx t s ≡ part u p → Comes t s u p
   unfolding frameCall content
   frame-part e = go (arrival s) refl e
     where
       go : (r : Answer Arrival) → arrival s ≡ r → carries t ctx s r ≡ part u p → Comes t s u p
-      go (is a) q e = by-test (addressed (nodeOf (a .dst))) (λ y. brings-part a q (rw y at e)) (λ y. not-from t u _ _ p (rw y at e))
-      go (refused n) q e = not-other t u _ p e
+      go (is a) q e = by-test (addressed (nodeOf (a .dst))) (λ y. brings-part a q (rw y at e)) (λ y. not-part _ u p refl (rw y at e))
+      go (refused n) q e = not-part _ u p refl e
 
 -- ---- its time
 

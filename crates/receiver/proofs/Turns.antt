@@ -10,19 +10,16 @@ use lib.ListN.{length, getD, set}
 use lib.Seq.{set-getD}
 use lib.Dec.{eqb, ltb, leb}
 use borrow.Author.Tests.{ltb-true, ltb-false, le-ltb, leb-true, leb-false, eqb-true, eqb-false, eq-eqb, ne-eqb}
-use Rattle.octets.specs.Read.{Answer, is, andThen, choose}
+use Rattle.octets.specs.Read.{Answer, is, choose}
 use Rattle.octets.specs.Read as Read
 use Rattle.octets.proofs.Spans.{not-refused}
 use Rattle.reassembly.specs.Lists.{count, those}
-use Rattle.octets.specs.Refusal.{numberOf}
 use Rattle.octets.specs.declared.refusal.Refusal.{Refusal}
-use Rattle.incoming.specs.Incoming.{ofArrival, arrival, Brought, datagram}
-use Rattle.incoming.specs.Incoming as Incoming
-use Rattle.incoming.specs.declared.arrival.Arrival.{Arrival}
+use Rattle.incoming.specs.Incoming.{ofArrival}
 use Rattle.incoming.specs.declared.arrival.ArrivalAnswer.{ArrivalAnswer}
-use Rattle.reassembly.specs.Slots.{nodeOf, addressed, owner, present, isKey, freeSlot, expire, gatesOf, isGate}
+use Rattle.reassembly.specs.Slots.{owner, present, isKey, freeSlot, expire, gatesOf, isGate}
 use Rattle.reassembly.specs.Parts.{Part, Reply, refused, told, ofOutcome, outputAfter, fits, Put}
-use Rattle.reassembly.specs.Table.{State, Result, from, part, splice, withSlots, stays, takeAt, fromGate, step, lentCall, Lands, Gives, Aged}
+use Rattle.reassembly.specs.Table.{State, Result, other, part, splice, withSlots, stays, takeAt, step, lentCall, Lands, Gives, Aged}
 use Rattle.words.specs.Words.{withSlot}
 use Rattle.reassembly.specs.declared.part.Outcome.{Outcome}
 use Rattle.reassembly.specs.declared.part.InSlot.{InSlot}
@@ -31,12 +28,13 @@ use Rattle.reassembly.specs.declared.slot.Source.{Source}
 use Rattle.reassembly.specs.declared.table.Table.{Table}
 use Rattle.reassembly.proofs.Tests.{by-test, by-order, not-true-false}
 use Rattle.reassembly.proofs.Lists.{firstAt-holds, firstAt-found, firstAt-most, count-at}
-use Rattle.reassembly.proofs.Answers.{enough-output, aged-is, aged-whole, aged-young, gates-of, gates-same, Leaves, leaves-7, leaves-8, leaves-other, leaves-from, leaves-9, leaves-10, leaves-offer, leaves-open, leaves-12}
+use Rattle.reassembly.proofs.Answers.{enough-output, aged-is, aged-whole, aged-young, gates-of, gates-same, Leaves, leaves-7, leaves-8, leaves-other, from-gate, lent-same, leaves-10, leaves-offer, leaves-open, leaves-12}
 use Rattle.reassembly.proofs.AtSlot.{take-own, take-other, take-bad, take-none}
 use Rattle.reassembly.proofs.Unwritten.{splice-back}
-use Rattle.receiver.specs.Receive.{senderOf, keyOf, content, brings, frameCall}
-use Rattle.receiver.specs.Steps.{judged, welcome, admitted, GateSays, GateBrings, Timed, HandsOver, called, ReceivesIn, openSlot, newSlot, slotFor, TakesIn}
+use Rattle.receiver.specs.Receive.{frameCall}
+use Rattle.receiver.specs.Steps.{judged, TurnedAway, Admits, GateSays, GateBrings, Timed, HandsOver, called, ReceivesIn, openSlot, newSlot, slotFor, TakesIn}
 use Rattle.receiver.proofs.Names.{call-of, frame-at}
+use Rattle.receiver.proofs.Steps.{turned-away}
 
 abbrev state : Table → List ℕ → State
 state tb m = record { table = tb; mem = m }
@@ -46,7 +44,7 @@ abbrev pub withTime : Table → ℕ → Table
 withTime x t = record { slots = x .slots; last = t; gateways = x .gateways }
 
 -- ---- the time
-same-number : {A : Type 0} (n k : ℕ) → _≡_ {A = Answer A} (Read.refused n) (Read.refused k) → n ≡ k
+same-number : (n k : ℕ) → _≡_ {A = Answer (Unit {0})} (Read.refused n) (Read.refused k) → n ≡ k
 same-number n k e = cc
 
 module _ (tb : Table) (t : ℕ) (s ctx m o : List ℕ) where
@@ -164,41 +162,18 @@ module _ (tb x : Table) (t : ℕ) (s ctx m o : List ℕ) (T : Timed tb x t m o) 
           let L : Ends (takeAt was i t p m o) = by-test (fits p) (λ good. by-order (suc i) 8 (λ h. ends-slot good h) (λ h. ends-none good (le-of-suc-le-suc h))) (λ bad. ends-bad bad) in
           rw (T .last) (as-part _ _ _ L)
 
-  -- what x is
-  abbrev aged : x ≡ withSlots tb t (expire t (tb .slots))
-  aged = timed-table ∙ aged-is tb x t (T .aged)
+  -- it is to the table what is answered so whoever sends it
+  leaves-as : (a : Reply (List ℕ)) → step (state tb m) (frameCall ctx t s) ≡ step (state tb m) (other t a) → Leaves (called tb t s ctx m o) a x m
+  leaves-as a q =
+      rw (← call-of m o ctx t s, lent-same (state tb m) m o _ _ q) (leaves-other tb m o t (T .enough) (T .late) x (timed-table ∙ aged-is tb x t (T .aged)) a)
 
   -- it is a gateway's, and brings no part
   pub leaves-answer : (a : Reply (List ℕ)) → GateSays (gatesOf x) ctx t s a → Leaves (called tb t s ctx m o) a x m
-  unfolding fromGate
-  leaves-answer a (g, k, F) = rw (← call-of m o ctx t s, F) (rw (rw gates-are at k) at (leaves-from tb m o t (T .enough) (T .late) x aged g a))
+  leaves-answer a (g, k, F) = leaves-as a (rw F (from-gate (state tb m) t g a (rw gates-are at k)))
 
-  -- a stranger's is refused, 9, whatever it is
-  pub leaves-stranger : (a : Arrival) → arrival s ≡ is a → isGate (senderOf a) (gatesOf tb) ≡ false → Leaves (called tb t s ctx m o) (refused 9) x m
-  unfolding frameCall keyOf fromGate
-  leaves-stranger a q k = rw (← call-of m o ctx t s, q) (go (content ctx a s))
-    where
-      says : (r : Reply (List ℕ)) → Leaves (step (state tb m) (lentCall m o (from t (senderOf a) r))) (refused 9) x m
-      says r = rw k at (leaves-from tb m o t (T .enough) (T .late) x aged (senderOf a) r)
-
-      go : (b : Answer Brought) → Leaves (step (state tb m) (lentCall m o (brings t a b))) (refused 9) x m
-      go (is (datagram d e)) = says _
-      go (is (Incoming.part size tag u bs e)) = rw timed-table (leaves-9 tb m o t _ (T .enough) (T .late) x (T .aged) k)
-      go (Read.refused n) = says _
-
-  -- and so is one of a gateway, where it is not let in
-  pub leaves-refused : (n : ℕ) → Read.refused n ≡ admitted (gatesOf x) s → Leaves (called tb t s ctx m o) (refused n) x m
-  unfolding admitted welcome frameCall content
-  leaves-refused n e = go (arrival s) refl e
-    where
-      go : (r : Answer Arrival) → arrival s ≡ r → Read.refused n ≡ andThen r (λ a. welcome (gatesOf x) a) → Leaves (called tb t s ctx m o) (refused n) x m
-      go (is a) q e = by-test (isGate (senderOf a) (gatesOf x))
-          (λ k. by-test (addressed (nodeOf (a .dst)))
-          (λ d. not-refused a n (rw (k, d) at e))
-          (λ d. rw (same-number n 6 (rw (k, d) at e)) (leaves-answer (refused 6) (senderOf a, k, rw (q, d)))))
-          (λ k. rw (same-number n 9 (rw k at e)) (leaves-stranger a q (rw gates-are at k)))
-      go (Read.refused r) q e =
-          rw (same-number n r e, ← call-of m o ctx t s, q) (leaves-other tb m o t (T .enough) (T .late) x aged (refused r))
+  -- it is not let in
+  pub leaves-refused : (n : ℕ) → TurnedAway (gatesOf x) s n → Leaves (called tb t s ctx m o) (refused n) x m
+  leaves-refused n w = leaves-as (refused n) (turned-away (state tb m) ctx t s (rw gates-are at w))
 
 -- ---- what a call leaves, as an answer
 pub gives-of : (q : Result) (a : Reply (List ℕ)) (x : Table) (m o o′ : List ℕ) → Leaves q a x m → (r : Outcome) → ofOutcome r ≡ told a → o′ ≡ outputAfter a o → Gives (record { answer = r; table = x }) m o o′ q
@@ -221,5 +196,5 @@ takes x t p i e m o z a r m′ o′ D y b s ctx F tb T = rw b (gives-slot _ _ x 
 pub answers : (x : Table) (t : ℕ) (s ctx m o : List ℕ) (a : Reply (List ℕ)) → GateSays (gatesOf x) ctx t s a → (r : Outcome) (o′ : List ℕ) → HandsOver r o o′ a → ReceivesIn x t s ctx r x m m o o′
 answers x t s ctx m o a F r o′ A tb T = gives-of _ a x m o o′ (leaves-answer tb x t s ctx m o T a F) r (A .answer) (A .output)
 
-pub refuses : (x : Table) (t : ℕ) (s ctx m o : List ℕ) (y : ArrivalAnswer) → ofArrival y ≡ admitted (gatesOf x) s → (e : Refusal) → y ≡ ArrivalAnswer.Refused e → ReceivesIn x t s ctx (Outcome.Refused e) x m m o o
-refuses x t s ctx m o y p e q tb T = gives-of _ _ x m o o (leaves-refused tb x t s ctx m o T (numberOf e) (sym (ap ofArrival q) ∙ p)) (Outcome.Refused e) refl refl
+pub refuses : (x : Table) (t : ℕ) (s ctx m o : List ℕ) (y : ArrivalAnswer) → Admits (gatesOf x) s (ofArrival y) → (e : Refusal) → y ≡ ArrivalAnswer.Refused e → ReceivesIn x t s ctx (Outcome.Refused e) x m m o o
+refuses x t s ctx m o y p e q tb T = gives-of _ _ x m o o (leaves-refused tb x t s ctx m o T _ (rw q at p)) (Outcome.Refused e) refl refl

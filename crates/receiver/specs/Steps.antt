@@ -6,7 +6,7 @@ use mathlib.Core.Bool.{true, false, _||_}
 use mathlib.Core.List.{List}
 use lib.ListN.{length}
 use lib.Dec.{eqb, ltb}
-use Rattle.octets.specs.Read.{Answer, is, andThen, choose}
+use Rattle.octets.specs.Read.{Answer, is, choose}
 use Rattle.octets.specs.Read as Read
 use Rattle.octets.specs.Refusal.{numberOf}
 use Rattle.reassembly.specs.Lists.{firstAt}
@@ -38,13 +38,17 @@ pub record Timed (tb x : Table) (t : ℕ) (m o : List ℕ) : Type 0 where
   pub late : tb .last ≤ t
 
 -- ---- the frame
--- 9: the sender is not one of the gateways gs; 6: the destination is absent
-unfoldable pub welcome : List Source → Arrival → Answer Arrival
-welcome gs a = choose (isGate (senderOf a) gs) (choose (addressed (nodeOf (a .dst))) (is a) (Read.refused 6)) (Read.refused 9)
+-- the frame s is not let in to a table of the gateways gs: the MAC header's refusals and 13; then 9, its sender is none of them; then 6, its
+-- destination is absent
+pub data TurnedAway (gs : List Source) (s : List ℕ) : ℕ → Type 0 where
+  unread : (n : ℕ) → arrival s ≡ Read.refused n → TurnedAway gs s n
+  stranger : (a : Arrival) → arrival s ≡ is a → isGate (senderOf a) gs ≡ false → TurnedAway gs s 9
+  nowhere : (a : Arrival) → arrival s ≡ is a → isGate (senderOf a) gs ≡ true → addressed (nodeOf (a .dst)) ≡ false → TurnedAway gs s 6
 
--- who sends the frame to whom: the MAC header's refusals and 13, then 9 and 6
-unfoldable pub admitted : List Source → List ℕ → Answer Arrival
-admitted gs s = andThen (arrival s) (λ a. welcome gs a)
+-- who sends the frame to whom
+abbrev pub Admits : List Source → List ℕ → Answer Arrival → Type 0
+Admits gs s (is a) = (arrival s ≡ is a) × (isGate (senderOf a) gs ≡ true) × (addressed (nodeOf (a .dst)) ≡ true)
+Admits gs s (Read.refused n) = TurnedAway gs s n
 
 -- at the time t it is one of a gateway, who is answered a; or one that brings the part p
 abbrev pub GateSays : List Source → List ℕ → ℕ → List ℕ → Reply (List ℕ) → Type 0

@@ -14,7 +14,7 @@ ghost use Rattle.reassembly.specs.Parts.{withBytes};
 ghost use Rattle.reassembly.specs.Table.{step, Gives};
 ghost use Rattle.words.specs.Words.{tableIn};
 ghost use Rattle.receiver.specs.Receive.{senderOf, keyOf, tested, callOf};
-ghost use Rattle.receiver.specs.Steps.{ofJudged, judged, admitted, HandsOver, ReceivesIn, TakesIn};
+ghost use Rattle.receiver.specs.Steps.{ofJudged, judged, Admits, HandsOver, ReceivesIn, TakesIn};
 use expand::checksum::UdpSum;
 use expand::checksum::is_right;
 use expand::copy::put_slice;
@@ -65,7 +65,7 @@ fn sender_of(a: Arrival) -> Source
 
 // Who sends a frame to whom, where the sender is a gateway (9) and the destination is present (6).
 fn admit(t: &[u64; WORDS], frame: &[u8]) -> ArrivalAnswer
-    ensures { λ r. ⌜ ofArrival r ≡ admitted (gatesOf (tableIn (now (t .entry)))) (now (frame .entry)) ⌝ }
+    ensures { λ r. ⌜ Admits (gatesOf (tableIn (now (t .entry)))) (now (frame .entry)) (ofArrival r) ⌝ }
 {
     match Arrival::read(frame) {
         ArrivalAnswer::Is(a) => {
