@@ -9,7 +9,6 @@ ghost use Prim.Native.Nat.{_≤_, min};
 ghost use lib.ListN.{replicate};
 ghost use Rattle.iphc.specs.Iphc.{iphc};
 ghost use Rattle.iphc.specs.Answers.{ofParsed};
-ghost use Rattle.reassembly.specs.Slots.{gatesOf};
 ghost use Rattle.reassembly.specs.Table.{step, Gives};
 ghost use Rattle.words.specs.Words.{tableIn};
 ghost use Rattle.receiver.specs.Receive.{callOf};
@@ -112,8 +111,7 @@ fn receive_flat(
 ) -> Outcome
     ensures { λ r. ⌜ Gives (record { answer = r; table = tableIn (now (t .exit)) }) (now (mem .exit)) (now (out .entry))
         (now (out .exit)) (step (record { table = tableIn (now (t .entry)); mem = now (mem .entry) })
-        (callOf (now (mem .entry)) (now (out .entry)) (gatesOf (tableIn (now (t .entry)))) (bytesOf f) time
-        (now (frame .entry)))) ⌝ }
+        (callOf (now (mem .entry)) (now (out .entry)) (bytesOf f) time (now (frame .entry)))) ⌝ }
 {
     let bytes = f.bytes;
     let n = at_most_128(f.len);
@@ -131,8 +129,8 @@ pub fn receive(
 ) -> Outcome
     ensures { λ r. ⌜ Gives (record { answer = r; table = tableIn (now (t .exit)) }) (now (mem .exit)) (now (out .entry))
         (now (out .exit)) (step (record { table = tableIn (now (t .entry)); mem = now (mem .entry) })
-        (callOf (now (mem .entry)) (now (out .entry)) (gatesOf (tableIn (now (t .entry))))
-        (listed (now (contexts .entry))) time (now (frame .entry)))) ⌝ }
+        (callOf (now (mem .entry)) (now (out .entry)) (listed (now (contexts .entry))) time
+        (now (frame .entry)))) ⌝ }
 {
     let f = flatten(contexts);
     receive_flat(t, time, frame, f, mem, out)

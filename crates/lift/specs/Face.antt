@@ -9,7 +9,6 @@ use Rattle.octets.specs.Read.{choose}
 use Rattle.ieee802154.specs.declared.addr.Address.{Address}
 use Rattle.ieee802154.specs.declared.addr.Address.the-variants.{Absent, Short, Extended}
 use Rattle.ieee802154.specs.declared.addr.PanField.{PanField}
-use Rattle.reassembly.specs.Slots.{gatesOf}
 use Rattle.reassembly.specs.Parts.{Reply, kept, out, refused, told, outputAfter}
 use Rattle.reassembly.specs.Table.{Result, step}
 use Rattle.reassembly.specs.Fresh.{gateOf, refusedList, fresh}
@@ -74,7 +73,7 @@ tableBegun t l = choose (refusesList l) t (fresh (gateways l))
 
 -- ---- a frame s at the time at, to the table t with the memory m, the output o and the contexts ctx
 unfoldable pub received : Table → ℕ → List ℕ → List ℕ → List ℕ → List ℕ → Result
-received t at s ctx m o = step (record { table = t; mem = m }) (callOf m o (gatesOf t) ctx at s)
+received t at s ctx m o = step (record { table = t; mem = m }) (callOf m o ctx at s)
 
 -- the answer r, and afterwards the table t, the memory m and the output o, o₀ before, are as q says
 pub record Answers (r : ℕ) (t : Table) (m o₀ o : List ℕ) (q : Result) : Type 0 where

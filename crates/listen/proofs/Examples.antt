@@ -27,16 +27,16 @@ use Rattle.expand.specs.Sum.{holds}
 use Rattle.expand.specs.Expand.{Expansion}
 use Rattle.expand.proofs.CopyLaws.{length-put}
 use Rattle.expand.proofs.Examples.{printed-example}
-use Rattle.incoming.specs.Incoming.{framed, arrival, datagram, whole, payload}
+use Rattle.incoming.specs.Incoming.{framed, arrival, Brought, datagram, part, whole, payload}
+use Rattle.incoming.specs.declared.arrival.Arrival.{Arrival}
 use Rattle.reassembly.specs.Lists.{count, those}
 use Rattle.reassembly.specs.Slots.{noNode, noSource, noKey, sameNode, sameSource, addressed, present, freeSlot, expired, expire1, expire, gatesOf, isGate}
 use Rattle.reassembly.specs.Parts as Parts
 use Rattle.reassembly.specs.Parts.{Reply, outputAfter}
-use Rattle.reassembly.specs.Table.{State, Result, other, slotsAt, aged, withSlots, pass, step, lentCall}
+use Rattle.reassembly.specs.Table.{Call, State, Result, from, slotsAt, aged, withSlots, pass, fromGate, takePart, step, lentCall}
 use Rattle.reassembly.specs.Fresh.{gateOf, seats, fresh}
-use Rattle.reassembly.specs.declared.slot.Source.{Source}
 use Rattle.ieee802154.specs.declared.addr.PanField.{PanField}
-use Rattle.receiver.specs.Receive.{welcome, admitted, brings, frameCall, callOf, tested}
+use Rattle.receiver.specs.Receive.{keyOf, content, brings, frameCall, callOf, tested}
 use Rattle.listen.specs.Lines.{widthIn, decimal, endLine}
 use Rattle.capture.specs.File.{pieces, blocksOf, joined}
 use Rattle.listen.specs.Heard.{listedAs, Listener, Listened, frameResult, afterFrame, saidOf, afterFrames, saidOfAll, hearBlock, starting, thenHeard, hearBlocks, hearAll, lastLine, beginning, heard}
@@ -51,9 +51,6 @@ frameFrom lo hi = record {
 abbrev pub frames : List Timed
 frames = frameFrom 0x01 0x00 ∷ frameFrom 0x34 0x12 ∷ []
 
-abbrev gates : List Source
-gates = gateOf (listedAs 1) ∷ gateOf (listedAs 2) ∷ gateOf (listedAs 3) ∷ gateOf (listedAs 4) ∷ []
-
 -- the datagram of the first: fe80::ff:fe00:1 to fe80::ff:fe00:ffff, and four bytes of ICMPv6
 abbrev handed : List ℕ
 handed =
@@ -62,14 +59,16 @@ handed =
     ∷ 0xfe ∷ 0x80 ∷ 0x00 ∷ 0x00 ∷ 0x00 ∷ 0x00 ∷ 0x00 ∷ 0x00 ∷ 0x00 ∷ 0x00 ∷ 0x00 ∷ 0xff ∷ 0xfe ∷ 0x00 ∷ 0xff ∷ 0xff
     ∷ 0x01 ∷ 0x02 ∷ 0x03 ∷ 0x04 ∷ []
 
-brought : frameCall gates [] 0 (frameFrom 0x01 0x00 .frame) ≡ other 0 (Parts.out handed)
-unfolding frameCall admitted welcome arrival framed relay meshField broadcastField payload whole dispatch dispatchOf mac header byte le16 sequence headerRest afterControl supported saysElements omitsSequence addressing hasAddressing sides side carried carried01 panField addressField auxiliary reprOf sequenceOf hasSequence isGate sameSource sameNode present addressed count tested holds
-brought =
-    ap (λ (e : Answer Expansion). brings 0 (record { src = Short 1; pan = PanField.Some (record { 0 = 0xabcd }); dst = Short 0xffff; payload = record { at = 9 } }) (andThen e (λ (x : Expansion). is (datagram (x .bytes) (x .sum))))) printed-example
+abbrev arrives : ℕ → Arrival
+arrives n = record { src = Short n; pan = PanField.Some (record { 0 = 0xabcd }); dst = Short 0xffff; payload = record { at = 9 } }
 
-turned-away : frameCall gates [] 0 (frameFrom 0x34 0x12 .frame) ≡ other 0 (Parts.refused 9)
-unfolding frameCall admitted welcome arrival framed relay meshField broadcastField mac header byte le16 sequence headerRest afterControl supported saysElements omitsSequence addressing hasAddressing sides side carried carried01 panField addressField auxiliary reprOf sequenceOf hasSequence isGate sameSource sameNode present addressed count
-turned-away = refl
+arrived : (arrival (frameFrom 0x01 0x00 .frame) ≡ is (arrives 1)) × (arrival (frameFrom 0x34 0x12 .frame) ≡ is (arrives 0x1234))
+unfolding arrival framed relay meshField broadcastField mac header byte le16 sequence headerRest afterControl supported saysElements omitsSequence addressing hasAddressing sides side carried carried01 panField addressField auxiliary reprOf sequenceOf hasSequence
+arrived = (refl, refl)
+
+brought : frameCall [] 0 (frameFrom 0x01 0x00 .frame) ≡ from 0 (gateOf (listedAs 1)) (Parts.out handed)
+unfolding frameCall content payload whole dispatch dispatchOf byte addressed tested holds
+brought = rw (arrived .0) (ap (λ (e : Answer Expansion). brings 0 (arrives 1) (andThen e (λ (x : Expansion). is (datagram (x .bytes) (x .sum))))) printed-example)
 
 -- "1 out 44", "2 no 9"
 abbrev lines : List (List ℕ)
@@ -82,17 +81,27 @@ module _ (m : List ℕ) (M : 16384 ≤ length m) where
   abbrev after : ℕ → List ℕ → Listener
   after n o = record { ear = record { table = starting .table; frames = n; block = 0 }; mem = m; out = o }
 
+  abbrev at-first : State
+  at-first = record { table = starting .table; mem = m }
+
   abbrev passed : Reply (List ℕ) → Result
   passed a = record { reply = a; state = record { table = starting .table; mem = m }; opens = 0; ends = 0; took = false }
 
-  nothing-kept : (a : Reply (List ℕ)) → step (record { table = starting .table; mem = m }) (other 0 a) ≡ passed a
-  unfolding step pass withSlots slotsAt aged expire expire1 expired count starting fresh seats freeSlot noKey noSource noNode
-  nothing-kept a = refl
+  -- a gateway's is answered; a stranger's is refused, 9, whatever it is
+  answered : step at-first (from 0 (gateOf (listedAs 1)) (Parts.out handed)) ≡ passed (Parts.out handed)
+  unfolding step pass withSlots slotsAt aged expire expire1 expired count gatesOf those present addressed starting fresh seats freeSlot noKey noSource noNode fromGate isGate sameSource sameNode
+  answered = refl
 
-  module _ (n : ℕ) (o : List ℕ) (O : 2047 ≤ length o) (f : List ℕ) (a : Reply (List ℕ)) (C : frameCall gates [] 0 f ≡ other 0 a) where
+  turned-away : (b : Answer Brought) → step at-first (brings 0 (arrives 0x1234) b) ≡ passed (Parts.refused 9)
+  unfolding step takePart pass withSlots slotsAt aged expire expire1 expired count gatesOf those present addressed starting fresh seats freeSlot noKey noSource noNode fromGate isGate sameSource sameNode keyOf
+  turned-away (is (datagram d u)) = refl
+  turned-away (is (part size tag u bs e)) = refl
+  turned-away (refused n) = refl
+
+  module _ (n : ℕ) (o : List ℕ) (O : 2047 ≤ length o) (f : List ℕ) (c : Call) (C : frameCall [] 0 f ≡ c) (a : Reply (List ℕ)) (S : step at-first c ≡ passed a) where
     came : frameResult (after n o) (record { time = 0; frame = f }) ≡ passed a
-    unfolding frameResult callOf lentCall gatesOf those present addressed starting fresh seats
-    came = rw (le-ltb (length m) 16384 M, le-ltb (length o) 2047 O, C) (nothing-kept a)
+    unfolding frameResult callOf lentCall
+    came = rw (le-ltb (length m) 16384 M, le-ltb (length o) 2047 O, C) S
 
   module _ (o : List ℕ) (O : 2047 ≤ length o) where
     o′ : List ℕ
@@ -103,10 +112,11 @@ module _ (m : List ℕ) (M : 16384 ≤ length m) where
     O′ = omega (arith, length-put 0 handed o)
 
     first : frameResult (after 0 o) (frameFrom 0x01 0x00) ≡ passed (Parts.out handed)
-    first = came 0 o O (frameFrom 0x01 0x00 .frame) (Parts.out handed) brought
+    first = came 0 o O (frameFrom 0x01 0x00 .frame) _ brought (Parts.out handed) answered
 
     second : frameResult (after 1 o′) (frameFrom 0x34 0x12) ≡ passed (Parts.refused 9)
-    second = came 1 o′ O′ (frameFrom 0x34 0x12 .frame) (Parts.refused 9) turned-away
+    unfolding frameCall
+    second = came 1 o′ O′ (frameFrom 0x34 0x12 .frame) _ (rw (arrived .1) refl) (Parts.refused 9) (turned-away (content [] (arrives 0x1234) (frameFrom 0x34 0x12 .frame)))
 
     after-first : afterFrame (after 0 o) (frameFrom 0x01 0x00) ≡ after 1 o′
     unfolding afterFrame o′

@@ -18,7 +18,7 @@ use Rattle.capture.specs.Made.{noFrame}
 use Rattle.capture.proofs.Exact.{frames-length, frames-at}
 use Rattle.capture.proofs.Unique.{told-good, told-bad}
 use Rattle.reassembly.specs.Lists.{count}
-use Rattle.reassembly.specs.Slots.{gatesOf, sameNode, sameSource, addressed, present}
+use Rattle.reassembly.specs.Slots.{sameNode, sameSource, addressed, present}
 use Rattle.reassembly.specs.Parts.{ofOutcome, told, outputAfter}
 use Rattle.reassembly.specs.Table.{Received, step, Gives}
 use Rattle.reassembly.specs.Fresh.{fresh, sources, unfit, refusedList, Begins}
@@ -80,7 +80,7 @@ rest s k h =
 
 module _ (s : List ℕ) (k : ℕ) (x₀ : Listener) (e : Ear) (m o : List ℕ) (p₀ : Page) (was : List ℕ) (at : ℕ) (y : Outcome) (w m′ o′ : List ℕ) (t : ℕ) (f : List ℕ) (n : ℕ) (room : List ℕ) (to : ℕ) where
   pub turn : Going s k x₀ (listener e m o) p₀ (page was at) → k < countOf s → t ≡ timeOf k s → f ≡ frameOf k s
-      → Gives (record { answer = y; table = tableIn w }) m′ o o′ (step (record { table = tableIn (e .table); mem = m }) (callOf m o (gatesOf (tableIn (e .table))) [] t f))
+      → Gives (record { answer = y; table = tableIn w }) m′ o o′ (step (record { table = tableIn (e .table); mem = m }) (callOf m o [] t f))
       → n ≡ next (e .frames) → Printed at (frameLine n (ofOutcome y)) was room to
       → Going s (k + 1) x₀ (listener (record { table = w; frames = n; block = e .block }) m′ o′) p₀ (page room to)
   unfolding frameResult afterFrames saidOfAll putLines

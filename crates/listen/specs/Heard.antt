@@ -10,7 +10,6 @@ use Rattle.ieee802154.specs.declared.addr.PanField.{PanField}
 use Rattle.ieee802154.specs.declared.addr.Address.the-variants.{Short}
 use Rattle.capture.specs.Block.{Timed, framesOf, goodBlock}
 use Rattle.capture.specs.File.{blocksOf, joined}
-use Rattle.reassembly.specs.Slots.{gatesOf}
 use Rattle.reassembly.specs.Parts.{told, outputAfter}
 use Rattle.reassembly.specs.Table.{Result, step}
 use Rattle.reassembly.specs.Fresh.{gateOf, fresh}
@@ -46,7 +45,7 @@ next n = (n + 1) % 2 ^ 64
 -- what the receiver makes of it: there are no contexts
 unfoldable pub frameResult : Listener → Timed → Result
 frameResult x f =
-    step (record { table = x .ear .table; mem = x .mem }) (callOf (x .mem) (x .out) (gatesOf (x .ear .table)) [] (f .time) (f .frame))
+    step (record { table = x .ear .table; mem = x .mem }) (callOf (x .mem) (x .out) [] (f .time) (f .frame))
 
 unfoldable pub afterFrame : Listener → Timed → Listener
 afterFrame x f = record {

@@ -3,7 +3,7 @@ use Prim.Native.Nat.{ℕ, _+_, _≤_}
 use native.Mathlib.Omega.{arith}
 use mathlib.Core.Path.{_≡_, refl, sym, ap, _∙_}
 use mathlib.Core.Logic.{_⊎_, inl, inr}
-use mathlib.Core.Bool.{true, false}
+use mathlib.Core.Bool.{false}
 use mathlib.Core.List.{List, [], _∷_, _++_, map, map-append, append-nil}
 use lib.ListN.{length, drop}
 use Rattle.octets.specs.Read.{is}
@@ -16,7 +16,8 @@ use Rattle.reassembly.specs.declared.slot.Source.{Source}
 use Rattle.reassembly.specs.declared.slot.Key.{Key}
 use Rattle.reassembly.specs.declared.part.Outcome.{Outcome}
 use Rattle.reassembly.proofs.Parts.{length-finish}
-use Rattle.reassembly.proofs.Runs.{Good, step-did, did-good, did-gates, did-length, gates-fresh, fresh-good, comes-one, comes-brought, comes-part}
+use Rattle.reassembly.proofs.Runs.{Good, step-did, did-good, gates-fresh, fresh-good, run-good, run-gates, run-length, comes-one, comes-brought, comes-part}
+use Rattle.reassembly.proofs.Lent.{room-part, lent-room}
 use Rattle.reassembly.proofs.Promises.{three, tally, outcome-one}
 use Rattle.reassembly.proofs.Promises as Table
 use Rattle.reassembly.specs.Cover.{In, Covers, MadeOf}
@@ -27,8 +28,9 @@ use Rattle.promises.specs.Demands.{Demand3, AtMostThree, EightSlots, Nev
 use Rattle.reassembly.proofs.Fits.{fit}
 use Rattle.promises.proofs.Strangers.{no-stranger}
 use Rattle.promises.proofs.Engine.{In-left}
+use Rattle.receiver.specs.Receive.{frameCall, callOf}
 use Rattle.receiver.specs.Names.{named}
-use Rattle.receiver.proofs.Names.{call-after, call-part, call-room, call-memory}
+use Rattle.receiver.proofs.Names.{call-after, call-part}
 use Rattle.promises.proofs.Runs as Runs
 
 -- ---- a run of `receive` is a run of calls
@@ -43,139 +45,120 @@ unfolding Ran Went
 ran-went [] σ R = tt
 ran-went (h ∷ hs) σ R = (R .0 .table, R .0 .memory, ran-went hs (left h) (R .1))
 
--- the gateways are gs, and the memory is as long as m
-pub record Fixed (gs : List Source) (m : List ℕ) (σ : State) : Type 0 where
-  pub good : Good σ
-  pub gates : gatesOf (σ .table) ≡ gs
-  pub size : length (σ .mem) ≡ length m
+-- what comes to a table that a run can come to is what is meant: the table does not matter, and its memory is enough
+pub call-is : (σ : State) (h : Turn) → Good σ → callIn σ h ≡ meant h
+unfolding callIn callOf
+call-is σ h G = lent-room (h .before) (frameCall (h .contexts) (h .time) (h .frame)) (σ .mem) (G .room)
 
-module _ (gs : List Source) (m : List ℕ) where
-  pub fixed-begun : Gateways gs → 16384 ≤ length m → Fixed gs m (begun gs m)
-  fixed-begun W h = record { good = fresh-good gs m W h; gates = gates-fresh gs W; size = refl }
+pub good-next : (σ : State) (c : Call) → Good σ → Good (next σ c)
+unfolding next
+good-next σ c G = did-good σ G (step-did σ c G)
 
-  pub fixed-next : (σ : State) (c : Call) → Fixed gs m σ → Fixed gs m (next σ c)
-  unfolding next
-  fixed-next σ c F =
-      let D = step-did σ c (F .good) in
-      record { good = did-good σ (F .good) D; gates = did-gates σ D ∙ F .gates; size = did-length σ D ∙ F .size }
+-- the first call of a run, as a call that comes to σ
+module _ (σ : State) (h : Turn) (hs : List Turn) (G : Good σ) (L : Went σ (h ∷ hs)) where
+  left-is : left h ≡ next σ (meant h)
+  unfolding Went next
+  left-is =
+      let c = call-is σ h G in
+      let a : h .returned .table ≡ (step σ (meant h)) .state .table = rw c at (L .0) in
+      let b : h .memory ≡ (step σ (meant h)) .state .mem = rw c at (L .1) in
+      λ i. record { table = a i; mem = b i }
 
-  pub call-is : (σ : State) (h : Turn) → Fixed gs m σ → callIn σ h ≡ meant gs m h
-  unfolding callIn
-  call-is σ h F = rw (F .gates) (call-memory m (h .before) gs (h .contexts) (h .time) (h .frame) (σ .mem) (F .size))
+  left-good : Good (left h)
+  left-good = rw left-is (good-next σ (meant h) G)
 
-  -- the first call of a run, as a call that comes to σ
-  module _ (σ : State) (h : Turn) (hs : List Turn) (F : Fixed gs m σ) (L : Went σ (h ∷ hs)) where
-    left-is : left h ≡ next σ (meant gs m h)
-    unfolding Went next
-    left-is =
-        let c = call-is σ h F in
-        let a : h .returned .table ≡ (step σ (meant gs m h)) .state .table = rw c at (L .0) in
-        let b : h .memory ≡ (step σ (meant gs m h)) .state .mem = rw c at (L .1) in
-        λ i. record { table = a i; mem = b i }
-
-    left-fixed : Fixed gs m (left h)
-    left-fixed = rw left-is (fixed-next σ (meant gs m h) F)
-
-    left-went : Went (left h) hs
-    unfolding Went
-    left-went = L .2
-
-  pub ran-left : (hs js : List Turn) (σ : State) → Ran σ (hs ++ js) → Ran σ hs
-  unfolding Ran
-  ran-left [] js σ R = tt
-  ran-left (h ∷ hs) js σ R = (R .0, ran-left hs js (left h) (R .1))
-
-  pub ran-right : (hs js : List Turn) (σ : State) → Ran σ (hs ++ js) → Ran (endOf σ hs) js
-  unfolding Ran endOf
-  ran-right [] js σ R = R
-  ran-right (h ∷ hs) js σ R = ran-right hs js (left h) (R .1)
-
-  went-left : (hs js : List Turn) (σ : State) → Went σ (hs ++ js) → Went σ hs
+  left-went : Went (left h) hs
   unfolding Went
-  went-left [] js σ L = tt
-  went-left (h ∷ hs) js σ L = (L .0, L .1, went-left hs js (left h) (L .2))
+  left-went = L .2
 
-  went-right : (hs js : List Turn) (σ : State) → Went σ (hs ++ js) → Went (endOf σ hs) js
-  unfolding Went endOf
-  went-right [] js σ L = L
-  went-right (h ∷ hs) js σ L = went-right hs js (left h) (L .2)
+pub ran-left : (hs js : List Turn) (σ : State) → Ran σ (hs ++ js) → Ran σ hs
+unfolding Ran
+ran-left [] js σ R = tt
+ran-left (h ∷ hs) js σ R = (R .0, ran-left hs js (left h) (R .1))
 
-  went-is : (hs : List Turn) (σ : State) → Fixed gs m σ → Went σ hs → endOf σ hs ≡ run σ (map (meant gs m) hs)
-  unfolding endOf run
-  went-is [] σ F L = refl
-  went-is (h ∷ hs) σ F L =
-      went-is hs (left h) (left-fixed σ h hs F L) (left-went σ h hs F L) ∙ ap (λ (z : State). run z (map (meant gs m) hs)) (left-is σ h hs F L)
+pub ran-right : (hs js : List Turn) (σ : State) → Ran σ (hs ++ js) → Ran (endOf σ hs) js
+unfolding Ran endOf
+ran-right [] js σ R = R
+ran-right (h ∷ hs) js σ R = ran-right hs js (left h) (R .1)
 
-  went-fixed : (hs : List Turn) (σ : State) → Fixed gs m σ → Went σ hs → Fixed gs m (endOf σ hs)
-  unfolding endOf
-  went-fixed [] σ F L = F
-  went-fixed (h ∷ hs) σ F L = went-fixed hs (left h) (left-fixed σ h hs F L) (left-went σ h hs F L)
+went-left : (hs js : List Turn) (σ : State) → Went σ (hs ++ js) → Went σ hs
+unfolding Went
+went-left [] js σ L = tt
+went-left (h ∷ hs) js σ L = (L .0, L .1, went-left hs js (left h) (L .2))
 
-  pub end-is : (hs : List Turn) (σ : State) → Fixed gs m σ → Ran σ hs → endOf σ hs ≡ run σ (map (meant gs m) hs)
-  end-is hs σ F R = went-is hs σ F (ran-went hs σ R)
+went-right : (hs js : List Turn) (σ : State) → Went σ (hs ++ js) → Went (endOf σ hs) js
+unfolding Went endOf
+went-right [] js σ L = L
+went-right (h ∷ hs) js σ L = went-right hs js (left h) (L .2)
 
-  pub end-fixed : (hs : List Turn) (σ : State) → Fixed gs m σ → Ran σ hs → Fixed gs m (endOf σ hs)
-  end-fixed hs σ F R = went-fixed hs σ F (ran-went hs σ R)
+went-is : (hs : List Turn) (σ : State) → Good σ → Went σ hs → endOf σ hs ≡ run σ (map meant hs)
+unfolding endOf run
+went-is [] σ G L = refl
+went-is (h ∷ hs) σ G L =
+    went-is hs (left h) (left-good σ h hs G L) (left-went σ h hs G L) ∙ ap (λ (z : State). run z (map meant hs)) (left-is σ h hs G L)
 
-  openings-are : (hs : List Turn) (σ : State) → Fixed gs m σ → Went σ hs → openings σ hs ≡ opensIn σ (map (meant gs m) hs)
-  unfolding openings opensIn
-  openings-are [] σ F L = refl
-  openings-are (h ∷ hs) σ F L =
-      rw (call-is σ h F, openings-are hs (left h) (left-fixed σ h hs F L) (left-went σ h hs F L), left-is σ h hs F L)
+went-good : (hs : List Turn) (σ : State) → Good σ → Went σ hs → Good (endOf σ hs)
+went-good hs σ G L = rw (went-is hs σ G L) (run-good (map meant hs) σ G)
 
-  endings-are : (hs : List Turn) (σ : State) → Fixed gs m σ → Went σ hs → endings σ hs ≡ endsIn σ (map (meant gs m) hs)
-  unfolding endings endsIn
-  endings-are [] σ F L = refl
-  endings-are (h ∷ hs) σ F L =
-      rw (call-is σ h F, endings-are hs (left h) (left-fixed σ h hs F L) (left-went σ h hs F L), left-is σ h hs F L)
+openings-are : (hs : List Turn) (σ : State) → Good σ → Went σ hs → openings σ hs ≡ opensIn σ (map meant hs)
+unfolding openings opensIn
+openings-are [] σ G L = refl
+openings-are (h ∷ hs) σ G L =
+    rw (call-is σ h G, openings-are hs (left h) (left-good σ h hs G L) (left-went σ h hs G L), left-is σ h hs G L)
 
-  -- a clock that goes forward over all the calls does so over those that take their time
-  forward-is : (hs : List Turn) (n k : ℕ) → k ≤ n → Forward n hs → CallsForward k (map (meant gs m) hs)
-  unfolding Forward CallsForward
-  forward-is [] n k l f = tt
-  forward-is (h ∷ hs) n k l f = go (call-after m (h .before) gs (h .contexts) (h .time) (h .frame) k) (f .0) (λ j l′. forward-is hs (h .time) j l′ (f .1))
-    where
-      go : (after k (meant gs m h) ≡ k) ⊎ (after k (meant gs m h) ≡ h .time) → n ≤ h .time → ((j : ℕ) → j ≤ h .time → CallsForward j (map (meant gs m) hs))
-          → (k ≤ after k (meant gs m h)) × CallsForward (after k (meant gs m h)) (map (meant gs m) hs)
-      go (inl e) a ih = rw e (omega arith, ih k (omega arith))
-      go (inr e) a ih = rw e (omega arith, ih (h .time) (omega arith))
+endings-are : (hs : List Turn) (σ : State) → Good σ → Went σ hs → endings σ hs ≡ endsIn σ (map meant hs)
+unfolding endings endsIn
+endings-are [] σ G L = refl
+endings-are (h ∷ hs) σ G L =
+    rw (call-is σ h G, endings-are hs (left h) (left-good σ h hs G L) (left-went σ h hs G L), left-is σ h hs G L)
+
+-- a clock that goes forward over all the calls does so over those that take their time
+forward-is : (hs : List Turn) (n k : ℕ) → k ≤ n → Forward n hs → CallsForward k (map meant hs)
+unfolding Forward CallsForward
+forward-is [] n k l f = tt
+forward-is (h ∷ hs) n k l f = go (call-after (h .before) (h .contexts) (h .time) (h .frame) k) (f .0) (λ j l′. forward-is hs (h .time) j l′ (f .1))
+  where
+    go : (after k (meant h) ≡ k) ⊎ (after k (meant h) ≡ h .time) → n ≤ h .time → ((j : ℕ) → j ≤ h .time → CallsForward j (map meant hs))
+        → (k ≤ after k (meant h)) × CallsForward (after k (meant h)) (map meant hs)
+    go (inl e) a ih = rw e (omega arith, ih k (omega arith))
+    go (inr e) a ih = rw e (omega arith, ih (h .time) (omega arith))
 
 -- ---- what came
 
 pub part-one : (t u : ℕ) (p q : Part) → part t p ≡ part u q → p ≡ q
 part-one t u p q e = cc
 
-module _ (gs : List Source) (m : List ℕ) (k : Key) where
+module _ (k : Key) where
   -- a part came in one of the calls
-  pub came-in : (hs : List Turn) (p : Part) → In p (came k (map (meant gs m) hs)) → (h : Turn) × In h hs × (comes k (meant gs m h) ≡ p ∷ [])
+  pub came-in : (hs : List Turn) (p : Part) → In p (came k (map meant hs)) → (h : Turn) × In h hs × (comes k (meant h) ≡ p ∷ [])
   unfolding came
   came-in [] p i = absurd i
-  came-in (h ∷ hs) p i = go (comes-one k (meant gs m h)) (λ j. came-in hs p j)
+  came-in (h ∷ hs) p i = go (comes-one k (meant h)) (λ j. came-in hs p j)
     where
-      go : (comes k (meant gs m h) ≡ []) ⊎ ((q : Part) × (comes k (meant gs m h) ≡ q ∷ []))
-          → (In p (came k (map (meant gs m) hs)) → (x : Turn) × In x hs × (comes k (meant gs m x) ≡ p ∷ []))
-          → (x : Turn) × In x (h ∷ hs) × (comes k (meant gs m x) ≡ p ∷ [])
+      go : (comes k (meant h) ≡ []) ⊎ ((q : Part) × (comes k (meant h) ≡ q ∷ []))
+          → (In p (came k (map meant hs)) → (x : Turn) × In x hs × (comes k (meant x) ≡ p ∷ []))
+          → (x : Turn) × In x (h ∷ hs) × (comes k (meant x) ≡ p ∷ [])
       go (inl e) ih =
-          let j : In p (came k (map (meant gs m) hs)) = rw e at i in
+          let j : In p (came k (map meant hs)) = rw e at i in
           let w = ih j in (w .0, inr (w .1), w .2)
       go (inr (q, e)) ih = one (rw e at i)
         where
-          one : In p (q ∷ came k (map (meant gs m) hs)) → (x : Turn) × In x (h ∷ hs) × (comes k (meant gs m x) ≡ p ∷ [])
+          one : In p (q ∷ came k (map meant hs)) → (x : Turn) × In x (h ∷ hs) × (comes k (meant x) ≡ p ∷ [])
           one (inl z) = (h, inl refl, rw z e)
           one (inr j) = let w = ih j in (w .0, inr (w .1), w .2)
 
   -- the call that covers brings a part
-  covering-brings : (mid : List Turn) (c : Turn) → Covers (k .size) (came k (map (meant gs m) (mid ++ (c ∷ [])))) → (Covers (k .size) (came k (map (meant gs m) mid)) → ⊥)
-      → (q : Part) × (comes k (meant gs m c) ≡ q ∷ [])
+  covering-brings : (mid : List Turn) (c : Turn) → Covers (k .size) (came k (map meant (mid ++ (c ∷ [])))) → (Covers (k .size) (came k (map meant mid)) → ⊥)
+      → (q : Part) × (comes k (meant c) ≡ q ∷ [])
   unfolding came
-  covering-brings mid c C nc = go (comes-one k (meant gs m c))
+  covering-brings mid c C nc = go (comes-one k (meant c))
     where
-      nothing-new : comes k (meant gs m c) ≡ [] → came k (map (meant gs m) (mid ++ (c ∷ []))) ≡ came k (map (meant gs m) mid)
+      nothing-new : comes k (meant c) ≡ [] → came k (map meant (mid ++ (c ∷ []))) ≡ came k (map meant mid)
       nothing-new e =
-          ap (came k) (map-append (meant gs m) mid (c ∷ [])) ∙ Runs.came-append k (map (meant gs m) mid) (meant gs m c ∷ [])
-          ∙ rw e (append-nil (came k (map (meant gs m) mid)))
+          ap (came k) (map-append meant mid (c ∷ [])) ∙ Runs.came-append k (map meant mid) (meant c ∷ [])
+          ∙ rw e (append-nil (came k (map meant mid)))
 
-      go : (comes k (meant gs m c) ≡ []) ⊎ ((q : Part) × (comes k (meant gs m c) ≡ q ∷ [])) → (q : Part) × (comes k (meant gs m c) ≡ q ∷ [])
+      go : (comes k (meant c) ≡ []) ⊎ ((q : Part) × (comes k (meant c) ≡ q ∷ [])) → (q : Part) × (comes k (meant c) ≡ q ∷ [])
       go (inl e) = absurd (nc (rw (nothing-new e) at C))
       go (inr w) = w
 
@@ -192,13 +175,13 @@ pub record Replies (k : Key) (d : List ℕ) (σ : State) (mid : List Turn) (c : 
   pub exactly : (step (endOf σ mid) (callIn (endOf σ mid) c)) .reply ≡ out d
   pub room : length d ≤ length (c .before)
 
-kept-in : (gs : List Source) (m : List ℕ) (k : Key) (hs : List Turn) (σ : State) → Fixed gs m σ → Went σ hs → AllKept k σ (map (meant gs m) hs)
-    → ((h : Turn) → In h hs → named (h .frame) ≡ is k → (p : Part) × (comes k (meant gs m h) ≡ p ∷ [])) → KeptIn k σ hs
+kept-in : (k : Key) (hs : List Turn) (σ : State) → Good σ → Went σ hs → AllKept k σ (map meant hs)
+    → ((h : Turn) → In h hs → named (h .frame) ≡ is k → (p : Part) × (comes k (meant h) ≡ p ∷ [])) → KeptIn k σ hs
 unfolding AllKept KeptIn
-kept-in gs m k [] σ F L A B = tt
-kept-in gs m k (h ∷ hs) σ F L A B = (
-  λ n. let w = B h (inl refl) n in rw (call-is gs m σ h F) (A .0 (w .0) (w .1)),
-  kept-in gs m k hs (left h) (left-fixed gs m σ h hs F L) (left-went gs m σ h hs F L) (rw (left-is gs m σ h hs F L) (A .1)) (λ x i. B x (inr i)),
+kept-in k [] σ F L A B = tt
+kept-in k (h ∷ hs) σ F L A B = (
+  λ n. let w = B h (inl refl) n in rw (call-is σ h F) (A .0 (w .0) (w .1)),
+  kept-in k hs (left h) (left-good σ h hs F L) (left-went σ h hs F L) (rw (left-is σ h hs F L) (A .1)) (λ x i. B x (inr i)),
 )
 
 -- what `receive` answers then, and the output
@@ -219,13 +202,13 @@ out-front d b o r a e l = a ∙ ap (λ (z : Reply (List ℕ)). outputAfter z b) 
 
 module _ (gs : List Source) (m : List ℕ) (k : Key) (d : List ℕ) (C : Cutting k d) (past mid : List Turn) (c : Turn) (H : Supposed gs m k d C past mid c) where
   calls : List Turn → List Call
-  calls hs = map (meant gs m) hs
+  calls hs = map meant hs
 
   -- what came under the key is of the cutting
-  of-cutting : (h : Turn) → In h (mid ++ (c ∷ [])) → (p : Part) → comes k (meant gs m h) ≡ p ∷ [] → In p (C .parts)
+  of-cutting : (h : Turn) → In h (mid ++ (c ∷ [])) → (p : Part) → comes k (meant h) ≡ p ∷ [] → In p (C .parts)
   of-cutting h i p e =
-      let B = comes-brought k (meant gs m h) p e in
-      let P = call-part m (h .before) gs (h .contexts) (h .time) (h .frame) (B .time) p (B .call) in
+      let B = comes-brought k (meant h) p e in
+      let P = call-part (h .before) (h .contexts) (h .time) (h .frame) (B .time) p (B .call) in
       let w = H .of-cutting h i (P .name ∙ ap is (B .key)) in
       let same : w .0 ≡ p = part-one (h .time) (B .time) (w .0) p (sym (w .2) ∙ B .call) in
       rw (← same) (w .1)
@@ -241,53 +224,48 @@ module _ (gs : List Source) (m : List ℕ) (k : Key) (d : List ℕ) (C : Cutting
   unfolding p₀
   p₀-in = H .of-cutting (H .first) first-in (H .earliest-named) .1
 
-  p₀-brought : meant gs m (H .first) ≡ part (H .first .time) p₀
+  p₀-brought : meant (H .first) ≡ part (H .first .time) p₀
   unfolding p₀
   p₀-brought = H .of-cutting (H .first) first-in (H .earliest-named) .2
 
-  gate : isGate (owner k) gs ≡ true
-  gate =
-      let h = H .first in
-      rw (C .keyed p₀ p₀-in) at (call-part m (h .before) gs (h .contexts) (h .time) (h .frame) (h .time) p₀ p₀-brought .gate)
-
   -- the covering part
-  covering : (q : Part) × (comes k (meant gs m c) ≡ q ∷ [])
-  covering = covering-brings gs m k mid c (unfold partsOf in (H .cover)) (unfold partsOf in (H .not-before))
+  covering : (q : Part) × (comes k (meant c) ≡ q ∷ [])
+  covering = covering-brings k mid c (unfold partsOf in (H .cover)) (unfold partsOf in (H .not-before))
 
   q : Part
   q = covering .0
 
-  q-comes : comes k (meant gs m c) ≡ q ∷ []
+  q-comes : comes k (meant c) ≡ q ∷ []
   unfolding q
   q-comes = covering .1
 
-  q-brought : meant gs m c ≡ part (c .time) q
+  q-brought : meant c ≡ part (c .time) q
   q-brought =
-      let B = comes-brought k (meant gs m c) q q-comes in
-      B .call ∙ ap (λ (t : ℕ). part t q) (call-part m (c .before) gs (c .contexts) (c .time) (c .frame) (B .time) q (B .call) .time)
+      let B = comes-brought k (meant c) q q-comes in
+      B .call ∙ ap (λ (t : ℕ). part t q) (call-part (c .before) (c .contexts) (c .time) (c .frame) (B .time) q (B .call) .time)
 
   window : calls (mid ++ (c ∷ [])) ≡ calls mid ++ (part (c .time) q ∷ [])
   unfolding calls
-  window = map-append (meant gs m) mid (c ∷ []) ∙ ap (λ (x : Call). map (meant gs m) mid ++ (x ∷ [])) q-brought
+  window = map-append meant mid (c ∷ []) ∙ ap (λ (x : Call). map meant mid ++ (x ∷ [])) q-brought
 
   run-of-calls : calls (past ++ (mid ++ (c ∷ []))) ≡ calls past ++ (calls mid ++ (part (c .time) q ∷ []))
   unfolding calls
-  run-of-calls = map-append (meant gs m) past (mid ++ (c ∷ [])) ∙ ap (λ (xs : List Call). map (meant gs m) past ++ xs) (unfold calls in window)
+  run-of-calls = map-append meant past (mid ++ (c ∷ [])) ∙ ap (λ (xs : List Call). map meant past ++ xs) (unfold calls in window)
 
   supposed : CallsSupposed gs m k d C (calls past) (calls mid) (c .time) q
   unfolding calls partsOf
   supposed = record {
     gateways = H .gateways;
     enough = H .enough;
-    forward = rw (← run-of-calls) (forward-is gs m (past ++ (mid ++ (c ∷ []))) 0 0 (omega arith) (H .forward));
-    gate = gate;
+    forward = rw (← run-of-calls) (forward-is (past ++ (mid ++ (c ∷ []))) 0 0 (omega arith) (H .forward));
+    gate = H .gate;
     t₀ = H .first .time;
     p₀ = p₀;
-    then = map (meant gs m) (H .then);
-    earliest = sym window ∙ ap (map (meant gs m)) (H .earliest) ∙ ap (λ (x : Call). x ∷ map (meant gs m) (H .then)) p₀-brought;
+    then = map meant (H .then);
+    earliest = sym window ∙ ap (map meant) (H .earliest) ∙ ap (λ (x : Call). x ∷ map meant (H .then)) p₀-brought;
     earliest-part = p₀-in;
     of-cutting = λ p i.
-        let w = came-in gs m k (mid ++ (c ∷ [])) p (rw window i) in
+        let w = came-in k (mid ++ (c ∷ [])) p (rw window i) in
         of-cutting (w .0) (w .1) p (w .2);
     cover = rw (← window) (H .cover);
     not-before = H .not-before;
@@ -295,17 +273,17 @@ module _ (gs : List Source) (m : List ℕ) (k : Key) (d : List ℕ) (C : Cutting
   }
 
   -- what the theorem on runs of calls says of them
-  pub as-calls : held (owner k) (run (begun gs m) (map (meant gs m) past) .table .slots) ≡ 0
-      → (p : Part) × (meant gs m c ≡ part (c .time) p) × CallsConcluded (run (begun gs m) (map (meant gs m) past)) k d (map (meant gs m) mid) (c .time) p
+  pub as-calls : held (owner k) (run (begun gs m) (map meant past) .table .slots) ≡ 0
+      → (p : Part) × (meant c ≡ part (c .time) p) × CallsConcluded (run (begun gs m) (map meant past)) k d (map meant mid) (c .time) p
   unfolding calls
   as-calls z = (q, q-brought, Runs.calls-demand-3 gs m k d C (calls past) (calls mid) (c .time) q supposed z)
 
   fits-output : length d ≤ length (c .before)
   fits-output =
-      let B = comes-brought k (meant gs m c) q q-comes in
+      let B = comes-brought k (meant c) q q-comes in
       let f = fit q (B .fit) in
       let z : q .key .size ≡ k .size = ap (λ (x : Key). x .size) (B .key) in
-      omega (arith, C .sized, f .small, call-room m (c .before) gs (c .contexts) (c .time) (c .frame) (c .time) q q-brought)
+      omega (arith, C .sized, f .small, room-part (c .before) _ (c .time) q q-brought .1)
 
   -- the table and the memory when the earliest part comes, and when the covering call does
   abbrev σ₁ : State
@@ -315,36 +293,36 @@ module _ (gs : List Source) (m : List ℕ) (k : Key) (d : List ℕ) (C : Cutting
   σ₂ = endOf (endOf (begun gs m) past) mid
 
   module _ (L : Went (begun gs m) (past ++ (mid ++ (c ∷ [])))) where
-    fixed₀ : Fixed gs m (begun gs m)
-    fixed₀ = fixed-begun gs m (H .gateways) (H .enough)
+    good₀ : Good (begun gs m)
+    good₀ = fresh-good gs m (H .gateways) (H .enough)
 
     went₀ : Went (begun gs m) past
-    went₀ = went-left gs m past (mid ++ (c ∷ [])) (begun gs m) L
+    went₀ = went-left past (mid ++ (c ∷ [])) (begun gs m) L
 
-    fixed₁ : Fixed gs m σ₁
-    fixed₁ = went-fixed gs m past (begun gs m) fixed₀ went₀
+    good₁ : Good σ₁
+    good₁ = went-good past (begun gs m) good₀ went₀
 
     σ₁-is : σ₁ ≡ run (begun gs m) (calls past)
     unfolding calls
-    σ₁-is = went-is gs m past (begun gs m) fixed₀ went₀
+    σ₁-is = went-is past (begun gs m) good₀ went₀
 
     went₁ : Went σ₁ mid
-    went₁ = went-left gs m mid (c ∷ []) σ₁ (went-right gs m past (mid ++ (c ∷ [])) (begun gs m) L)
+    went₁ = went-left mid (c ∷ []) σ₁ (went-right past (mid ++ (c ∷ [])) (begun gs m) L)
 
-    fixed₂ : Fixed gs m σ₂
-    fixed₂ = went-fixed gs m mid σ₁ fixed₁ went₁
+    good₂ : Good σ₂
+    good₂ = went-good mid σ₁ good₁ went₁
 
     σ₂-is : σ₂ ≡ run σ₁ (calls mid)
     unfolding calls
-    σ₂-is = went-is gs m mid σ₁ fixed₁ went₁
+    σ₂-is = went-is mid σ₁ good₁ went₁
 
     replied : CallsConcluded (run (begun gs m) (calls past)) k d (calls mid) (c .time) q → Replies k d σ₁ mid c
     unfolding calls
     replied D = record {
-      none-before = kept-in gs m k mid σ₁ fixed₁ went₁ (rw σ₁-is (D .none-before)) (λ h i n.
+      none-before = kept-in k mid σ₁ good₁ went₁ (rw σ₁-is (D .none-before)) (λ h i n.
           let w = H .of-cutting h (In-left h mid (c ∷ []) i) n in
           (w .0, rw (w .2) (comes-part k (h .time) (w .0) (C .keyed (w .0) (w .1)) (C .pass10 (w .0) (w .1)))));
-      exactly = rw (call-is gs m σ₂ c fixed₂, σ₂-is, σ₁-is, q-brought) (D .exactly);
+      exactly = rw (call-is σ₂ c good₂, σ₂-is, σ₁-is, q-brought) (D .exactly);
       room = fits-output;
     }
 
@@ -357,15 +335,15 @@ module _ (gs : List Source) (m : List ℕ) (k : Key) (d : List ℕ) (C : Cutting
 
   module _ (R : Ran (begun gs m) (past ++ (mid ++ (c ∷ [])))) where
     ran₁ : Ran σ₁ (mid ++ (c ∷ []))
-    ran₁ = ran-right gs m past (mid ++ (c ∷ [])) (begun gs m) R
+    ran₁ = ran-right past (mid ++ (c ∷ [])) (begun gs m) R
 
     ran₂ : Ran σ₂ (c ∷ [])
-    ran₂ = ran-right gs m mid (c ∷ []) σ₁ ran₁
+    ran₂ = ran-right mid (c ∷ []) σ₁ ran₁
 
     concluded : Replies k d σ₁ mid c → Concluded k d mid c
     unfolding Ran
     concluded D = record {
-      none-before = kept-so k mid σ₁ (ran-left gs m mid (c ∷ []) σ₁ ran₁) (D .none-before);
+      none-before = kept-so k mid σ₁ (ran-left mid (c ∷ []) σ₁ ran₁) (D .none-before);
       answer = outcome-one (c .returned .answer) (Outcome.Out (length d)) (ran₂ .0 .answer ∙ ap told (D .exactly));
       output = out-front d (c .before) (c .output) _ (ran₂ .0 .output) (D .exactly) (D .room);
     }
@@ -386,44 +364,47 @@ made-small k ps d M = omega (arith, ap length (M .made), length-finish (M .sum) 
 module _ (gs : List Source) (m : List ℕ) (W : Gateways gs) (h : 16384 ≤ length m) (hs : List Turn) where
   module _ (L : Went (begun gs m) hs) where
     pub went-three : (g : Source) → held g (endOf (begun gs m) hs .table .slots) ≤ 3
-    went-three g = rw (went-is gs m hs (begun gs m) (fixed-begun gs m W h) L) (three gs m W h (map (meant gs m) hs) g)
+    went-three g = rw (went-is hs (begun gs m) (fresh-good gs m W h) L) (three gs m W h (map meant hs) g)
 
     pub went-none : (g : Source) → isGate g gs ≡ false → held g (endOf (begun gs m) hs .table .slots) ≡ 0
-    went-none g n = rw (went-is gs m hs (begun gs m) (fixed-begun gs m W h) L) (no-stranger gs m W h (map (meant gs m) hs) g n)
+    went-none g n = rw (went-is hs (begun gs m) (fresh-good gs m W h) L) (no-stranger gs m W h (map meant hs) g n)
 
     pub went-eight : openings (begun gs m) hs + free (endOf (begun gs m) hs .table .slots) ≡ 8 + endings (begun gs m) hs
     went-eight =
-        let F = fixed-begun gs m W h in
-        rw (openings-are gs m hs (begun gs m) F L, endings-are gs m hs (begun gs m) F L, went-is gs m hs (begun gs m) F L) (tally gs m W h (map (meant gs m) hs))
+        let F = fresh-good gs m W h in
+        rw (openings-are hs (begun gs m) F L, endings-are hs (begun gs m) F L, went-is hs (begun gs m) F L) (tally gs m W h (map meant hs))
 
   module _ (R : Ran (begun gs m) hs) where
+    end-is : endOf (begun gs m) hs ≡ run (begun gs m) (map meant hs)
+    end-is = went-is hs (begun gs m) (fresh-good gs m W h) (ran-went hs (begun gs m) R)
+
     -- the gateways stay, and the lent memory keeps its length
     pub gateways-stay : gatesOf (endOf (begun gs m) hs .table) ≡ gs
-    gateways-stay = end-fixed gs m hs (begun gs m) (fixed-begun gs m W h) R .gates
+    gateways-stay = rw end-is (run-gates (map meant hs) (begun gs m) (fresh-good gs m W h) ∙ gates-fresh gs W)
 
     pub memory-stays : length (endOf (begun gs m) hs .mem) ≡ length m
-    memory-stays = end-fixed gs m hs (begun gs m) (fixed-begun gs m W h) R .size
+    memory-stays = rw end-is (run-length (map meant hs) (begun gs m) (fresh-good gs m W h))
 
 -- "bytes of two such keys never meet in one datagram", in 01's words: "each byte handed out from a slot, a computed checksum aside, is the byte
 -- at its place of a part taken under that slot's key since the slot's opening"
 module _ (gs : List Source) (m : List ℕ) (W : Gateways gs) (room : 16384 ≤ length m) (hs : List Turn) (h : Turn) where
   -- of the call's reply, whatever form the answer has
   module _ (L : Went (begun gs m) (hs ++ (h ∷ []))) where
-    pub went-apart : (p : Part) → MeansPart gs m h p → (n : ℕ) → out n ≡ told ((step (endOf (begun gs m) hs) (callIn (endOf (begun gs m) hs) h)) .reply)
+    pub went-apart : (p : Part) → MeansPart h p → (n : ℕ) → out n ≡ told ((step (endOf (begun gs m) hs) (callIn (endOf (begun gs m) hs) h)) .reply)
         → h .output ≡ outputAfter ((step (endOf (begun gs m) hs) (callIn (endOf (begun gs m) hs) h)) .reply) (h .before) → HandedOut gs m (p .key) hs h n
     unfolding takenOf
     went-apart p b n a o =
-        let F = fixed-begun gs m W room in
-        let L₁ = went-left gs m hs (h ∷ []) (begun gs m) L in
+        let F = fresh-good gs m W room in
+        let L₁ = went-left hs (h ∷ []) (begun gs m) L in
         let σ = endOf (begun gs m) hs in
-        let σ-is = went-is gs m hs (begun gs m) F L₁ in
-        let c = call-is gs m σ h (went-fixed gs m hs (begun gs m) F L₁) in
+        let σ-is = went-is hs (begun gs m) F L₁ in
+        let c = call-is σ h (went-good hs (begun gs m) F L₁) in
         let D = out-told n ((step σ (callIn σ h)) .reply) a in
-        let e : (step (run (begun gs m) (map (meant gs m) hs)) (part (h .time) p)) .reply ≡ out (D .0) = rw (← σ-is, ← b, ← c) (D .1) in
-        let M = Table.never-meet gs m W room (map (meant gs m) hs) (h .time) p (D .0) e in
-        let w : map (meant gs m) (hs ++ (h ∷ [])) ≡ map (meant gs m) hs ++ (part (h .time) p ∷ []) =
-        map-append (meant gs m) hs (h ∷ []) ∙ ap (λ (x : Call). map (meant gs m) hs ++ (x ∷ [])) b in
-        let l : length (D .0) ≤ length (h .before) = omega (arith, made-small _ _ (D .0) M, call-room m (h .before) gs (h .contexts) (h .time) (h .frame) (h .time) p b) in
+        let e : (step (run (begun gs m) (map meant hs)) (part (h .time) p)) .reply ≡ out (D .0) = rw (← σ-is, ← b, ← c) (D .1) in
+        let M = Table.never-meet gs m W room (map meant hs) (h .time) p (D .0) e in
+        let w : map meant (hs ++ (h ∷ [])) ≡ map meant hs ++ (part (h .time) p ∷ []) =
+        map-append meant hs (h ∷ []) ∙ ap (λ (x : Call). map meant hs ++ (x ∷ [])) b in
+        let l : length (D .0) ≤ length (h .before) = omega (arith, made-small _ _ (D .0) M, room-part (h .before) _ (h .time) p b .1) in
         record {
           datagram = D .0;
           length-is = D .2;
@@ -437,10 +418,10 @@ module _ (gs : List Source) (m : List ℕ) (W : Gateways gs) (room : 16384 ≤ l
         out-told n (refused r) e = let z : _≡_ {A = ℕ} 0 1 = cc in absurd (omega arith)
 
   module _ (R : Ran (begun gs m) (hs ++ (h ∷ []))) where
-    apart : (p : Part) → MeansPart gs m h p → (n : ℕ) → h .returned .answer ≡ Outcome.Out n → HandedOut gs m (p .key) hs h n
+    apart : (p : Part) → MeansPart h p → (n : ℕ) → h .returned .answer ≡ Outcome.Out n → HandedOut gs m (p .key) hs h n
     unfolding Ran
     apart p b n a =
-        let G = ran-right gs m hs (h ∷ []) (begun gs m) R .0 in
+        let G = ran-right hs (h ∷ []) (begun gs m) R .0 in
         went-apart (ran-went (hs ++ (h ∷ [])) (begun gs m) R) p b n (sym (ap ofOutcome a) ∙ G .answer) (G .output)
 
 -- ---- the four, each of its type (specs/Demands.antt)

@@ -30,8 +30,8 @@ use Rattle.iphc.proofs.Examples.{k1-k5, labels}
 use Rattle.sixlowpan.proofs.Examples.{k6-k7-k8-k10, k9}
 use lib.ListN.{length, getD}
 use Rattle.reassembly.specs.Slots.{busy, freeSlot, opened, expired}
-use Rattle.reassembly.specs.Parts.{Reply}
-use Rattle.reassembly.specs.Table.{other, State, step}
+use Rattle.reassembly.specs.Parts.{Part}
+use Rattle.reassembly.specs.Table.{Call, part, State, step, At}
 use Rattle.reassembly.specs.declared.slot.Key.{Key}
 use Rattle.reassembly.specs.declared.slot.Slot.{Slot}
 use Rattle.reassembly.proofs.Promises.{k12-held, k12-gone}
@@ -128,10 +128,10 @@ pub record Marked : Type 0 where
   -- a slot opened at 0 is held at 59,999, gone at 60,000: as the table tests it, and of slot i of every table, after every call that brings no part
   pub k12-held : (k : Key) → expired 59999 (opened k 0) ≡ false
   pub k12-gone : (k : Key) → expired 60000 (opened k 0) ≡ true
-  pub k12-still : (σ : State) (i : ℕ) (s : Slot) → SinceZero σ i s → (a : Reply (List ℕ)) → σ .table .last ≤ 59999
-      → getD ((step σ (other 59999 a)) .state .table .slots) i freeSlot ≡ s
-  pub k12-freed : (σ : State) (i : ℕ) (s : Slot) → SinceZero σ i s → (a : Reply (List ℕ)) → σ .table .last ≤ 60000
-      → getD ((step σ (other 60000 a)) .state .table .slots) i freeSlot ≡ freeSlot
+  pub k12-still : (σ : State) (i : ℕ) (s : Slot) → SinceZero σ i s → (c : Call) → At c 59999 → ((u : ℕ) (p : Part) → c ≡ part u p → ⊥) → σ .table .last ≤ 59999
+      → getD ((step σ c) .state .table .slots) i freeSlot ≡ s
+  pub k12-freed : (σ : State) (i : ℕ) (s : Slot) → SinceZero σ i s → (c : Call) → At c 60000 → ((u : ℕ) (p : Part) → c ≡ part u p → ⊥) → σ .table .last ≤ 60000
+      → getD ((step σ c) .state .table .slots) i freeSlot ≡ freeSlot
 
 pub marked : Marked
 marked =
@@ -156,8 +156,8 @@ marked =
       k11-emits = k11 .1;
       k12-held = k12-held;
       k12-gone = k12-gone;
-      k12-still = λ σ i s Z a h. k12-still σ i s (Z .low) (Z .here) (Z .live) (Z .zero) a h;
-      k12-freed = λ σ i s Z a h. k12-freed σ i s (Z .low) (Z .here) (Z .live) (Z .zero) a h;
+      k12-still = λ σ i s Z. k12-still σ i s (Z .low) (Z .here) (Z .live) (Z .zero);
+      k12-freed = λ σ i s Z. k12-freed σ i s (Z .low) (Z .here) (Z .live) (Z .zero);
     }
 
 -- 02, item 1: "With TF=01 the bytes 4a bc de must give ecn 40 (bits 01) and label abcde"; fe80::211:2233:4455:6677 to fe80::ff:fe00:abcd, next

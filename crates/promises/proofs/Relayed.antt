@@ -3,8 +3,8 @@
 use Prim.Native.Nat.{ℕ, _+_, _≤_}
 use native.Mathlib.Nat.{add-zero}
 use mathlib.Core.List.{List, [], _∷_, _++_, append-assoc}
-use mathlib.Core.Bool.{Bool, true, false}
-use mathlib.Core.Path.{_≡_, refl, sym, ap, subst, _∙_}
+use mathlib.Core.Bool.{true, false}
+use mathlib.Core.Path.{_≡_, refl, sym, ap, ap₂, subst, _∙_}
 use lib.Dec.{eqb}
 use lib.ListN.{length, getD, length-append}
 use lib.Seq.{getD-append-add, drop-append-add}
@@ -22,11 +22,11 @@ use Rattle.incoming.specs.Incoming.{framed, through, arrival, Brought, datagram
 use Rattle.incoming.specs.declared.arrival.Arrival.{Arrival}
 use Rattle.incoming.proofs.Steps.{arrival-short}
 use Rattle.incoming.proofs.Relayed.{direct, meshed}
-use Rattle.reassembly.specs.Slots.{nodeOf, sourceOf, addressed, isGate}
+use Rattle.reassembly.specs.Slots.{nodeOf, sourceOf, addressed}
+use Rattle.reassembly.specs.Parts as Parts
 use Rattle.reassembly.specs.Parts.{partOf}
 use Rattle.reassembly.specs.Table as Table
-use Rattle.reassembly.specs.declared.slot.Source.{Source}
-use Rattle.receiver.specs.Receive.{senderOf, keyOf, welcome, admitted, brings, carries, frameCall}
+use Rattle.receiver.specs.Receive.{senderOf, keyOf, content, tested, brings, carries, frameCall}
 use Rattle.sixlowpan.specs.Frag.{frag}
 use Rattle.sixlowpan.specs.Dispatch.{dispatch}
 use Rattle.sixlowpan.specs.declared.frag.Repr as Frag
@@ -45,7 +45,7 @@ use Rattle.octets.specs.Write.{byteBytes, be16Bytes}
 use Rattle.relay.specs.Mesh.{hopsBytes}
 use Rattle.promises.proofs.TwoParts.{high}
 use Rattle.promises.proofs.Worked as Worked
-use Rattle.promises.proofs.Worked.{Other, gateways, old-key, last-month, later-brings}
+use Rattle.promises.proofs.Worked.{old-key, last-month, later-brings}
 use Rattle.promises.proofs.Moved.{from, moves-frag, same-dispatch, same-expansion}
 
 -- ---- what a frame brings goes by its addresses and by the bytes behind its headers
@@ -110,25 +110,19 @@ key-alike a b A size tag =
     ∙ ap (λ z. record { src = senderOf b; dst = nodeOf z; size = size; tag = tag }) (A .receiver)
 
 brings-alike : (t : ℕ) (a b : Arrival) → Alike a b → (r : Answer Brought) → brings t a r ≡ brings t b r
-brings-alike t a b A (is (datagram d m)) = refl
+brings-alike t a b A (is (datagram d m)) = ap (λ z. Table.from t z (tested m d)) (sender-alike a b A)
 brings-alike t a b A (is (part size tag u bs e)) = ap (λ z. Table.part t (partOf z u e bs)) (key-alike a b A size tag)
-brings-alike t a b A (refused n) = refl
+brings-alike t a b A (refused n) = ap (λ z. Table.from t z (Parts.refused n)) (sender-alike a b A)
 
-module _ (gs : List Source) (ctx : List ℕ) (t : ℕ) (s u : List ℕ) (a b : Arrival) (A : Alike a b) (e : payload ctx a s ≡ payload ctx b u) where
-  carries-go : (g h : Bool) → carries t ctx s (choose g (choose h (is a) (refused 6)) (refused 9)) ≡ carries t ctx u (choose g (choose h (is b) (refused 6)) (refused 9))
-  carries-go true true = ap (λ r. brings t a r) e ∙ brings-alike t a b A (payload ctx b u)
-  carries-go true false = refl
-  carries-go false h = refl
-
-  -- frames that arrive alike and bring the same are the same to the table
-  pub same-call : arrival s ≡ is a → arrival u ≡ is b → frameCall gs ctx t s ≡ frameCall gs ctx t u
-  unfolding frameCall admitted welcome
-  same-call x y =
-      ap (λ r. carries t ctx s (andThen r (λ c. choose (isGate (senderOf c) gs) (choose (addressed (nodeOf (c .dst))) (is c) (refused 6)) (refused 9)))) x
-      ∙ carries-go (isGate (senderOf a) gs) (addressed (nodeOf (a .dst)))
-      ∙ ap (λ z. carries t ctx u (choose (isGate z gs) (choose (addressed (nodeOf (a .dst))) (is b) (refused 6)) (refused 9))) (sender-alike a b A)
-      ∙ ap (λ z. carries t ctx u (choose (isGate (senderOf b) gs) (choose (addressed (nodeOf z)) (is b) (refused 6)) (refused 9))) (A .receiver)
-      ∙ ap (λ r. carries t ctx u (andThen r (λ c. choose (isGate (senderOf c) gs) (choose (addressed (nodeOf (c .dst))) (is c) (refused 6)) (refused 9)))) (sym y)
+-- frames that arrive alike and bring the same are the same to every table
+pub same-call : (ctx : List ℕ) (t : ℕ) (s u : List ℕ) (a b : Arrival) → Alike a b → payload ctx a s ≡ payload ctx b u → arrival s ≡ is a → arrival u ≡ is b
+    → frameCall ctx t s ≡ frameCall ctx t u
+unfolding frameCall content
+same-call ctx t s u a b A e x y =
+    ap (λ r. carries t ctx s r) x
+    ∙ brings-alike t a b A (content ctx a s)
+    ∙ ap₂ (λ n r. brings t b (choose (addressed (nodeOf n)) r (refused 6))) (A .receiver) e
+    ∙ ap (λ r. carries t ctx u r) (sym y)
 
 -- ---- a frame behind a relay is to the table what the same frame is bare: behind a MAC header, or any front that is read as one, stand a relay's
 -- headers r and then q; or q stands behind a MAC header that has the mesh header's addresses, and the same PAN
@@ -140,8 +134,8 @@ module _ (front bare q : List ℕ) (r : Relay) (m : Mesh) (a b : Arrival) (is-me
   apart = sym (append-assoc front (relayBytes r) q)
 
   pub behind-relay : framed relayed ≡ is a → a .payload .at ≡ length front → framed (bare ++ q) ≡ is b → b .payload .at ≡ length bare → b .src ≡ m .origin → b .pan ≡ a .pan → b .dst ≡ m .destination
-      → (gs : List Source) (ctx : List ℕ) (t : ℕ) → frameCall gs ctx t relayed ≡ frameCall gs ctx t (bare ++ q)
-  behind-relay e i f j o h d gs ctx t =
+      → (ctx : List ℕ) (t : ℕ) → frameCall ctx t relayed ≡ frameCall ctx t (bare ++ q)
+  behind-relay e i f j o h d ctx t =
       let n = length front + length (relayBytes r) in
       let w : relay relayed (a .payload .at) ≡ got r n = ap (λ k. relay relayed k) i ∙ relay-trip r q both last front (length front) refl in
       let c = through a (MeshField.Some m) n in
@@ -153,7 +147,7 @@ module _ (front bare q : List ℕ) (r : Relay) (m : Mesh) (a b : Arrival) (is-me
       let l = arrival-short relayed c x in
       let k = arrival-short (bare ++ q) b y in
       let v = same-payload (front ++ relayBytes r) bare q (subst (λ y. length y ≤ 127) apart l) k ctx c b A z (j ∙ sym (add-zero (length bare))) in
-      same-call gs ctx t relayed (bare ++ q) c b A (ap (λ y. payload ctx c y) apart ∙ v) x y
+      same-call ctx t relayed (bare ++ q) c b A (ap (λ y. payload ctx c y) apart ∙ v) x y
 
 -- ---- in bytes: the later part of last month's block, that the gateway 0001 sent to all and the relay 0077 hands on, five hops left
 abbrev later-bytes : List ℕ
@@ -175,9 +169,9 @@ frames-read : (framed relayed-frame ≡ is (arrives 0x77)) × (framed (Worked.fr
 unfolding framed byte be16 le16 supported saysElements hasSequence omitsSequence hasAddressing carried01 carried panField addressField side sides addressing auxiliary Mac.sequence Mac.sequenceOf Mac.reprOf Mac.headerRest Mac.afterControl Mac.header Mac.mac hopsBytes byteBytes be16Bytes
 frames-read = (refl, refl, refl)
 
-pub relayed-brings : (t : ℕ) (w : Other) → frameCall (gateways w) [] t relayed-frame ≡ Table.part t (high old-key last-month 7 (carriedAt 0 40))
-relayed-brings t w =
+pub relayed-brings : (t : ℕ) → frameCall [] t relayed-frame ≡ Table.part t (high old-key last-month 7 (carriedAt 0 40))
+relayed-brings t =
     let c : Worked.from 0x77 0xcd 0xab 0x01 (relayBytes by-relay ++ later-bytes) ≡ relayed-frame = ap (λ z. Worked.from 0x77 0xcd 0xab 0x01 (z ++ later-bytes)) (frames-read .2) in
-    sym (ap (λ z. frameCall (gateways w) [] t z) c)
-    ∙ behind-relay (Worked.from 0x77 0xcd 0xab 0x01 []) (Worked.from 1 0xcd 0xab 0x01 []) later-bytes by-relay hop (arrives 0x77) (arrives 1) refl refl refl (ap framed c ∙ frames-read .0) refl (frames-read .1) refl refl refl refl (gateways w) [] t
-    ∙ later-brings t w .0
+    sym (ap (λ z. frameCall [] t z) c)
+    ∙ behind-relay (Worked.from 0x77 0xcd 0xab 0x01 []) (Worked.from 1 0xcd 0xab 0x01 []) later-bytes by-relay hop (arrives 0x77) (arrives 1) refl refl refl (ap framed c ∙ frames-read .0) refl (frames-read .1) refl refl refl refl [] t
+    ∙ later-brings t .0

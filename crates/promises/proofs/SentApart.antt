@@ -2,17 +2,12 @@
 use Prim.Native.Nat.{ℕ, _*_, _≤_, _<_}
 use native.Mathlib.Omega.{arith}
 use mathlib.Core.List.{List, [], _∷_, map}
-use mathlib.Core.Bool.{true}
 use mathlib.Core.Logic.{inl, inr}
 use mathlib.Core.Path.{_≡_, refl, sym, ap, subst, _∙_}
 use Rattle.octets.specs.Read.{is}
 use Rattle.expand.proofs.SumLaws.{Bytes}
 use Rattle.reassembly.specs.Cover.{In}
-use Rattle.reassembly.specs.Lists.{count}
-use Rattle.reassembly.specs.Slots.{sameSource, isGate}
-use Rattle.reassembly.specs.Table.{Call, part, other, short}
-use Rattle.reassembly.specs.declared.slot.Source.{Source}
-use Rattle.reassembly.proofs.Slots.{sameSource-refl}
+use Rattle.reassembly.specs.Table.{Call, part, from, other, short}
 use Rattle.receiver.specs.Receive.{frameCall}
 use Rattle.cutting.specs.Pieces.{pieces}
 use Rattle.cutting.specs.Cut.{planOf, frameOf, cut}
@@ -21,20 +16,16 @@ use Rattle.cutting.specs.declared.piece.Piece.{Piece}
 use Rattle.cutting.specs.declared.piece.Piece.the-variants.{Whole, First, Later}
 use Rattle.cutting.proofs.Tiling.{Each, startOf, endOf, Chain, pieces-chain}
 use Rattle.cutting.proofs.Cuttings.{cut-was}
-use Rattle.promises.specs.Sent.{sender, callFor, Distinct}
+use Rattle.promises.specs.Sent.{callFor, Distinct}
 use Rattle.promises.proofs.Sent.{Cuts, frames-bring}
 use Rattle.promises.proofs.SentParts.{each-in, in-map, Some, chain-least, Stands, stands, each-some, all-stand}
 use Rattle.promises.proofs.SentRuns.{cuts}
-
--- a table that lists g alone lists it
-alone : (g : Source) → isGate g (g ∷ []) ≡ true
-unfolding isGate count
-alone g = rw (sameSource-refl g) refl
 
 -- where what comes begins
 abbrev beginsAt : Call → ℕ
 beginsAt (part t p) = p .unit * 8
 beginsAt (other t r) = 0
+beginsAt (from t g r) = 0
 beginsAt short = 0
 
 begins-told : (l : Link) (d : List ℕ) (x : Piece) → Stands l d x → beginsAt (callFor l d 0 x) ≡ startOf x
@@ -46,14 +37,14 @@ module _ (l : Link) (d : List ℕ) (K : Cuts l d) where
   abbrev ps : List Piece
   ps = pieces (planOf l d)
 
-  told : (x : Piece) → In x ps → beginsAt (frameCall (sender l ∷ []) [] 0 (frameOf l d x)) ≡ startOf x
+  told : (x : Piece) → In x ps → beginsAt (frameCall [] 0 (frameOf l d x)) ≡ startOf x
   told x i =
-      let E = frames-bring l d K (sender l ∷ []) (alone (sender l)) [] 0 in
-      ap beginsAt (each-in (λ z. frameCall (sender l ∷ []) [] 0 (frameOf l d z) ≡ callFor l d 0 z) ps x E i)
+      let E = frames-bring l d K [] 0 in
+      ap beginsAt (each-in (λ z. frameCall [] 0 (frameOf l d z) ≡ callFor l d 0 z) ps x E i)
       ∙ begins-told l d x (stands l d (K .ready) x i)
 
   same : (x y : Piece) → In x ps → In y ps → frameOf l d x ≡ frameOf l d y → startOf x ≡ startOf y
-  same x y i j e = sym (told x i) ∙ ap (λ f. beginsAt (frameCall (sender l ∷ []) [] 0 f)) e ∙ told y j
+  same x y i j e = sym (told x i) ∙ ap (λ f. beginsAt (frameCall [] 0 f)) e ∙ told y j
 
   apart : (xs : List Piece) (b : ℕ) → Chain d b xs → Each (Some d) xs → ((x : Piece) → In x xs → In x ps) → Distinct (map (frameOf l d) xs)
   apart [] b c e s = tt

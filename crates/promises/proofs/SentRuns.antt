@@ -15,12 +15,13 @@ use Rattle.reassembly.specs.Cover.{In, Has, Covers}
 use Rattle.reassembly.specs.Fresh.{begun}
 use Rattle.reassembly.specs.Parts.{Part, fits, out, told}
 use Rattle.reassembly.specs.Slots.{owner, gatesOf, isGate, held}
-use Rattle.reassembly.specs.Table.{Call, part, other, State, lentCall, comes, pass, step, Gives}
+use Rattle.reassembly.specs.Table.{Call, part, from, State, lentCall, comes, pass, fromGate, step, Gives}
 use Rattle.reassembly.specs.declared.slot.Key.{Key}
 use Rattle.reassembly.specs.declared.slot.Source.{Source}
 use Rattle.reassembly.specs.declared.part.Outcome.{Outcome}
 use Rattle.reassembly.proofs.Promises.{outcome-one}
 use Rattle.reassembly.proofs.Runs.{comes-brought, comes-part}
+use Rattle.reassembly.proofs.Lent.{room-is}
 use Rattle.receiver.specs.Names.{named}
 use Rattle.receiver.specs.Receive.{tested, frameCall, callOf}
 use Rattle.receiver.proofs.Names.{frame-part, call-part}
@@ -48,13 +49,13 @@ cuts l d fs b e =
     record { bytes = b; ready = cut-ready l d fs e; both = w .both; ours = w .ours }
 
 -- ---- what a call brings came
-came-has : (gs : List Source) (m : List ℕ) (k : Key) (hs : List Turn) (h : Turn) (p : Part) → In h hs → MeansPart gs m h p → p .key ≡ k → fits p ≡ true → In p (came k (map (meant gs m) hs))
+came-has : (k : Key) (hs : List Turn) (h : Turn) (p : Part) → In h hs → MeansPart h p → p .key ≡ k → fits p ≡ true → In p (came k (map meant hs))
 unfolding came
-came-has gs m k [] h p i b e f = absurd i
-came-has gs m k (g ∷ hs) h p (inl q) b e f =
-    let c : comes k (meant gs m g) ≡ p ∷ [] = ap (λ z. comes k (meant gs m z)) (sym q) ∙ ap (comes k) b ∙ comes-part k (h .time) p e f in
+came-has k [] h p i b e f = absurd i
+came-has k (g ∷ hs) h p (inl q) b e f =
+    let c : comes k (meant g) ≡ p ∷ [] = ap (λ z. comes k (meant z)) (sym q) ∙ ap (comes k) b ∙ comes-part k (h .time) p e f in
     rw c (inl refl)
-came-has gs m k (g ∷ hs) h p (inr i) b e f = In-right p (comes k (meant gs m g)) (came k (map (meant gs m) hs)) (came-has gs m k hs h p i b e f)
+came-has k (g ∷ hs) h p (inr i) b e f = In-right p (comes k (meant g)) (came k (map meant hs)) (came-has k hs h p i b e f)
 
 -- ---- a datagram in more than one frame
 module _ (gs : List Source) (m : List ℕ) (l : Link) (d : List ℕ) (fs : List (List ℕ)) (b : Bytes d) (e : cut l d ≡ is fs) (more : l .limit < macLength l + (headLength l d + (length d - covers d))) (past mid : List Turn) (c : Turn) (H : SentSupposed gs m l d fs past mid c) where
@@ -77,24 +78,23 @@ module _ (gs : List Source) (m : List ℕ) (l : Link) (d : List ℕ) (fs : List 
   as-part : (t : ℕ) → Each (λ x. callFor l d t x ≡ part t (partFor l d x)) ps
   as-part t = pieces-each l d (K .ready) (λ x. callFor l d t x ≡ part t (partFor l d x)) (λ q. absurd (omega arith)) (λ n f. refl) (λ least at n z g. refl)
 
-  brought : (h : Turn) (x : Piece) → In x ps → h .frame ≡ frameOf l d x → frameCall gs (h .contexts) (h .time) (h .frame) ≡ part (h .time) (partFor l d x)
+  brought : (h : Turn) (x : Piece) → In x ps → h .frame ≡ frameOf l d x → frameCall (h .contexts) (h .time) (h .frame) ≡ part (h .time) (partFor l d x)
   brought h x i q =
-      ap (frameCall gs (h .contexts) (h .time)) q
-      ∙ each-in (λ z. frameCall gs (h .contexts) (h .time) (frameOf l d z) ≡ callFor l d (h .time) z) ps x (frames-bring l d K gs (H .lists) (h .contexts) (h .time)) i
+      ap (frameCall (h .contexts) (h .time)) q
+      ∙ each-in (λ z. frameCall (h .contexts) (h .time) (frameOf l d z) ≡ callFor l d (h .time) z) ps x (frames-bring l d K (h .contexts) (h .time)) i
       ∙ each-in (λ z. callFor l d (h .time) z ≡ part (h .time) (partFor l d z)) ps x (as-part (h .time)) i
 
   name : (h : Turn) (x : Piece) → In x ps → h .frame ≡ frameOf l d x → named (h .frame) ≡ is (keyFor l d)
-  name h x i q = frame-part gs (h .contexts) (h .time) (h .frame) (h .time) (partFor l d x) (brought h x i q) .name ∙ ap is (stand x i .key)
+  name h x i q = frame-part (h .contexts) (h .time) (h .frame) (h .time) (partFor l d x) (brought h x i q) .name ∙ ap is (stand x i .key)
 
-  lent : (h : Turn) (x : Piece) → In x ps → h .frame ≡ frameOf l d x → 2047 ≤ length (h .before) → MeansPart gs m h (partFor l d x)
-  unfolding callOf lentCall
-  lent h x i q r = rw (le-ltb (length m) 16384 (H .enough), le-ltb (length (h .before)) 2047 r) (brought h x i q)
+  lent : (h : Turn) (x : Piece) → In x ps → h .frame ≡ frameOf l d x → 2047 ≤ length (h .before) → MeansPart h (partFor l d x)
+  lent h x i q r = room-is (h .before) _ r ∙ brought h x i q
 
   -- a call with a frame of the cutting brings its part
-  brings-frame : (h : Turn) → In h (mid ++ (c ∷ [])) → In (h .frame) fs → (x : Piece) × In x ps × (h .frame ≡ frameOf l d x) × MeansPart gs m h (partFor l d x)
+  brings-frame : (h : Turn) → In h (mid ++ (c ∷ [])) → In (h .frame) fs → (x : Piece) × In x ps × (h .frame ≡ frameOf l d x) × MeansPart h (partFor l d x)
   brings-frame h j i = let (x, n, q) = of-frame (h .frame) i in (x, n, q, lent h x n q (H .room h j i))
 
-  covered : Covers (length d) (partsOf gs m (keyFor l d) (mid ++ (c ∷ [])))
+  covered : Covers (length d) (partsOf (keyFor l d) (mid ++ (c ∷ [])))
   unfolding partsOf parts-cut
   covered y k =
       let (p, i, has) = parts-cut l d (K .ready) (H .right) .fill y k in
@@ -102,18 +102,18 @@ module _ (gs : List Source) (m : List ℕ) (l : Link) (d : List ℕ) (fs : List 
       let (h, n, f) = H .each (frameOf l d x) (subst (In (frameOf l d x)) (sym frames-are) (map-in (frameOf l d) ps x j)) in
       let s = stand x j in
       let r = lent h x j f (H .room h n (subst (λ z. In z fs) (sym f) (subst (In (frameOf l d x)) (sym frames-are) (map-in (frameOf l d) ps x j)))) in
-      (partFor l d x, came-has gs m (keyFor l d) (mid ++ (c ∷ [])) h (partFor l d x) n r (s .key) (fits-is l d (K .ready) x s), subst (λ z. Has z y) q has)
+      (partFor l d x, came-has (keyFor l d) (mid ++ (c ∷ [])) h (partFor l d x) n r (s .key) (fits-is l d (K .ready) x s), subst (λ z. Has z y) q has)
 
   -- before the last, its first byte is missing
-  not-covered : Covers (length d) (partsOf gs m (keyFor l d) mid) → ⊥
+  not-covered : Covers (length d) (partsOf (keyFor l d) mid) → ⊥
   unfolding partsOf
   not-covered C =
       let (x, i, q) = of-frame (c .frame) (H .last) in
       let s = stand x i in
       let (p, j, has) = C (startOf x) (omega (arith, s .some, s .within)) in
-      let (h, n, o) = came-in gs m (keyFor l d) mid p j in
-      let B = comes-brought (keyFor l d) (meant gs m h) p o in
-      let N = call-part m (h .before) gs (h .contexts) (h .time) (h .frame) (B .time) p (B .call) in
+      let (h, n, o) = came-in (keyFor l d) mid p j in
+      let B = comes-brought (keyFor l d) (meant h) p o in
+      let N = call-part (h .before) (h .contexts) (h .time) (h .frame) (B .time) p (B .call) in
       let n′ : In h (mid ++ (c ∷ [])) = In-left h mid (c ∷ []) n in
       let (w, v, f, r) = brings-frame h n′ (H .only h n′ (N .name ∙ ap is (B .key))) in
       let same : partFor l d w ≡ p = part-one (h .time) (B .time) (partFor l d w) p (sym r ∙ B .call) in
@@ -129,6 +129,7 @@ module _ (gs : List Source) (m : List ℕ) (l : Link) (d : List ℕ) (fs : List 
     gateways = H .gateways;
     enough = H .enough;
     forward = H .forward;
+    gate = H .lists;
     first = H .first;
     then = H .then;
     earliest = H .earliest;
@@ -159,17 +160,17 @@ module _ (σ : State) (l : Link) (d : List ℕ) (fs : List (List ℕ)) (b : Byte
       go (x, inl q, f) = f ∙ ap (frameOf l d) q
       go (x, inr i, f) = absurd i
 
-  whole-call : frameCall (gatesOf (σ .table)) (h .contexts) (h .time) (h .frame) ≡ other (h .time) (out d)
+  whole-call : frameCall (h .contexts) (h .time) (h .frame) ≡ from (h .time) (sender l) (out d)
   unfolding tested
   whole-call =
-      let E = frames-bring l d (cuts l d fs b e) (gatesOf (σ .table)) lists (h .contexts) (h .time) in
-      ap (frameCall (gatesOf (σ .table)) (h .contexts) (h .time)) whole-frame
-      ∙ each-in (λ z. frameCall (gatesOf (σ .table)) (h .contexts) (h .time) (frameOf l d z) ≡ callFor l d (h .time) z) (pieces (planOf l d)) Whole E (rw (one-piece l d one) (inl refl))
+      let E = frames-bring l d (cuts l d fs b e) (h .contexts) (h .time) in
+      ap (frameCall (h .contexts) (h .time)) whole-frame
+      ∙ each-in (λ z. frameCall (h .contexts) (h .time) (frameOf l d z) ≡ callFor l d (h .time) z) (pieces (planOf l d)) Whole E (rw (one-piece l d one) (inl refl))
       ∙ rw right refl
 
   pub whole-reply : (step σ (callIn σ h)) .reply ≡ out d
-  unfolding callIn callOf lentCall step pass
-  whole-reply = rw (le-ltb (length (σ .mem)) 16384 enough, le-ltb (length (h .before)) 2047 room, whole-call, le-ltb (h .time) (σ .table .last) time) refl
+  unfolding callIn callOf lentCall fromGate step pass
+  whole-reply = rw (le-ltb (length (σ .mem)) 16384 enough, le-ltb (length (h .before)) 2047 room, whole-call, le-ltb (h .time) (σ .table .last) time, lists) refl
 
   -- the call hands the same datagram out
   pub whole-handed-out : Gives (h .returned) (h .memory) (h .before) (h .output) (step σ (callIn σ h)) → (h .returned .answer ≡ Outcome.Out (length d)) × (h .output ≡ d ++ drop (length d) (h .before))

@@ -4,12 +4,12 @@
 use Prim.Native.Nat.{ℕ, _+_, _≤_}
 use native.Mathlib.Omega.{arith}
 use mathlib.Core.Path.{_≡_, refl, sym, ap, subst, _∙_}
-use mathlib.Core.Bool.{Bool}
+use mathlib.Core.Bool.{true}
 use mathlib.Core.List.{List}
 use lib.ListN.{length, getD}
 use Rattle.octets.specs.Refusal.{numberOf}
 use Rattle.octets.specs.declared.refusal.Refusal.{Refusal}
-use Rattle.reassembly.specs.Slots.{gatesOf}
+use Rattle.reassembly.specs.Slots.{owner, gatesOf, isGate}
 use Rattle.reassembly.specs.Parts.{Part, Reply, kept, out, refused, told, ofOutcome, outputAfter}
 use Rattle.reassembly.specs.Table.{Received, Call, part, State, step, Gives}
 use Rattle.reassembly.specs.declared.part.Outcome.{Outcome}
@@ -41,14 +41,14 @@ module _ (σ : State) (c : Call) (m′ o o′ : List ℕ) (mem : m′ ≡ (step 
         output ∙ ap (λ (r : Reply (List ℕ)). outputAfter r o) k,
       )
 
-  of-writes : Writes c (σ .mem) m′ ((step σ c) .took)
-  of-writes = subst (λ (x : List ℕ). Writes c (σ .mem) x ((step σ c) .took)) (sym mem) (step-writes σ c)
+  of-writes : Writes (gatesOf (σ .table)) c (σ .mem) m′ ((step σ c) .took)
+  of-writes = subst (λ (x : List ℕ). Writes (gatesOf (σ .table)) c (σ .mem) x ((step σ c) .took)) (sym mem) (step-writes σ c)
 
   of-part : (t : ℕ) (p : Part) → c ≡ part t p → (i : ℕ) × ((x : ℕ) → (Inside p i x → ⊥) → getD m′ x 0 ≡ getD (σ .mem) x 0)
-  of-part t p b = writes-inside t p (σ .mem) m′ ((step σ c) .took) (subst (λ (x : Call). Writes x (σ .mem) m′ ((step σ c) .took)) b of-writes)
+  of-part t p b = writes-inside (gatesOf (σ .table)) t p (σ .mem) m′ ((step σ c) .took) (subst (λ (x : Call). Writes (gatesOf (σ .table)) x (σ .mem) m′ ((step σ c) .took)) b of-writes)
 
-  of-none : ((t : ℕ) (p : Part) → c ≡ part t p → ⊥) → m′ ≡ σ .mem
-  of-none f = writes-nothing c (σ .mem) m′ ((step σ c) .took) of-writes f
+  of-none : ((t : ℕ) (p : Part) → c ≡ part t p → isGate (owner (p .key)) (gatesOf (σ .table)) ≡ true → ⊥) → m′ ≡ σ .mem
+  of-none f = writes-nothing (gatesOf (σ .table)) c (σ .mem) m′ ((step σ c) .took) of-writes f
 
 -- ---- the table tb, the time t, the frame s, the contexts ctx, the lent memory m and the output o
 
@@ -57,10 +57,10 @@ module _ (tb : Table) (t : ℕ) (s ctx m o : List ℕ) where
   σ = record { table = tb; mem = m }
 
   abbrev call : Call
-  call = callOf m o (gatesOf tb) ctx t s
+  call = callOf m o ctx t s
 
   -- `receive` answers r, and leaves the memory m′ and the output o′
-  module _ (r : Received) (m′ o′ : List ℕ) (G : Gives r m′ o o′ (step (record { table = tb; mem = m }) (callOf m o (gatesOf tb) ctx t s))) where
+  module _ (r : Received) (m′ o′ : List ℕ) (G : Gives r m′ o o′ (step (record { table = tb; mem = m }) (callOf m o ctx t s))) where
     -- "no refusal but 17 writes a lent byte", and none writes the output
     pub receive-unwritten : (e : Refusal) → r .answer ≡ Outcome.Refused e → ((numberOf e ≡ 17 → ⊥) → m′ ≡ m) × (o′ ≡ o)
     receive-unwritten e a =
@@ -76,8 +76,8 @@ module _ (tb : Table) (t : ℕ) (s ctx m o : List ℕ) where
     pub receive-inside : (u : ℕ) (p : Part) → call ≡ part u p → (i : ℕ) × ((x : ℕ) → (Inside p i x → ⊥) → getD m′ x 0 ≡ getD m x 0)
     receive-inside = of-part σ call m′ o o′ (G .memory) (G .output)
 
-    -- what brings no part writes nothing of the memory
-    pub receive-elsewhere : ((u : ℕ) (p : Part) → call ≡ part u p → ⊥) → m′ ≡ m
+    -- what brings no part of a gateway writes nothing of the memory
+    pub receive-elsewhere : ((u : ℕ) (p : Part) → call ≡ part u p → isGate (owner (p .key)) (gatesOf tb) ≡ true → ⊥) → m′ ≡ m
     receive-elsewhere = of-none σ call m′ o o′ (G .memory) (G .output)
 
   -- `lift_receive` answers a, and leaves the table tb′, the memory m′ and the output o′; every table has eight slots
@@ -99,7 +99,7 @@ module _ (tb : Table) (t : ℕ) (s ctx m o : List ℕ) where
     unfolding received
     lift-unwritten eight n e = of-refusal σ call m′ o o′ memory-so output-so n (go ((step σ call) .reply) refl (sym e ∙ answer-so))
       where
-        go : (q : Reply (List ℕ)) → (step (record { table = tb; mem = m }) (callOf m o (gatesOf tb) ctx t s)) .reply ≡ q → 131072 + n ≡ packed (told q) → q ≡ refused n
+        go : (q : Reply (List ℕ)) → (step (record { table = tb; mem = m }) (callOf m o ctx t s)) .reply ≡ q → 131072 + n ≡ packed (told q) → q ≡ refused n
         go kept z h = absurd (omega (arith, h))
         go (out d) z h = absurd (omega (arith, h, received-length tb t s ctx m o eight d z .1))
         go (refused k) z h = let w : k ≡ n = omega (arith, h) in ap refused w
@@ -112,5 +112,5 @@ module _ (tb : Table) (t : ℕ) (s ctx m o : List ℕ) where
     pub lift-inside : (u : ℕ) (p : Part) → call ≡ part u p → (i : ℕ) × ((x : ℕ) → (Inside p i x → ⊥) → getD m′ x 0 ≡ getD m x 0)
     lift-inside = of-part σ call m′ o o′ memory-so output-so
 
-    pub lift-elsewhere : ((u : ℕ) (p : Part) → call ≡ part u p → ⊥) → m′ ≡ m
+    pub lift-elsewhere : ((u : ℕ) (p : Part) → call ≡ part u p → isGate (owner (p .key)) (gatesOf tb) ≡ true → ⊥) → m′ ≡ m
     lift-elsewhere = of-none σ call m′ o o′ memory-so output-so

@@ -21,13 +21,12 @@ use Rattle.expand.specs.Chain.{octets, extData, extBody, innerByte, udpStep, li
 use Rattle.expand.specs.Full as Full
 use Rattle.expand.specs.Expand as Expand
 use Rattle.incoming.specs.Incoming.{framed, arrival, piece, fragment, payload}
-use Rattle.reassembly.specs.Lists.{count}
-use Rattle.reassembly.specs.Slots.{sameNode, sameSource, addressed, present, isGate}
+use Rattle.reassembly.specs.Slots.{addressed}
 use Rattle.reassembly.specs.Table.{part}
 use Rattle.reassembly.specs.declared.slot.Node.{Node}
 use Rattle.reassembly.specs.declared.slot.Source.{Source}
 use Rattle.reassembly.specs.declared.slot.Key.{Key}
-use Rattle.receiver.specs.Receive.{keyOf, welcome, admitted, frameCall}
+use Rattle.receiver.specs.Receive.{keyOf, content, frameCall}
 use Rattle.promises.specs.Cuttings.{zeroed}
 use Rattle.promises.proofs.TwoParts.{low, high}
 
@@ -145,22 +144,26 @@ elided-frame = of-one 0x00 elided-sum
 abbrev pub resent-later : List ℕ
 resent-later = of-one 0x01 (rest 0x31)
 
--- what they bring to a table of the two gateways
+-- what they bring
 module _ (t : ℕ) where
   pub first-brings :
-      (w : Other)
-      → (frameCall (gateways w) [] t old-first ≡ part t (low old-key last-month 7 (carriedAt 0 40)))
-      × (frameCall (gateways w) [] t (new-first w) ≡ part t (low (new-key w) (this-month w) 7 (carriedAt 0 40)))
-      × (frameCall (gateways w) [] t elided-frame ≡ part t (low old-key resent 7 (elidedAt 0 40)))
-  unfolding byte be16 le16 byteBytes be16Bytes be32Bytes be64Bytes put supported saysElements hasSequence omitsSequence hasAddressing carried01 carried panField addressField side sides addressing auxiliary Mac.sequence Mac.sequenceOf Mac.reprOf Mac.headerRest Mac.afterControl Mac.header Mac.mac dispatchOf dispatch fragRest frag nextHeader nhcOf nhc bothPorts ports checksum udpRest udp Iphc.base Iphc.contexts Iphc.traffic Iphc.hopLimit Iphc.frontRest Iphc.front Iphc.identifier Iphc.prefixOf Iphc.elided Iphc.source Iphc.destination Iphc.addresses Iphc.reprOf Iphc.behind Iphc.iphc Full.frontWith Full.bothBytes Full.ipv6With Full.udpFull octets extData extBody innerByte udpStep linkOf link behindNext headerThen udpEnd onward chain chained extFull sizeOf fullBytes sumIn Expand.bytesOf Expand.sized Expand.expansion meshField broadcastField relay framed arrival piece fragment payload count sameSource sameNode present addressed isGate keyOf welcome admitted frameCall zeroed
-  first-brings neighbour = (refl, refl, refl)
-  first-brings building = (refl, refl, refl)
+      (frameCall [] t old-first ≡ part t (low old-key last-month 7 (carriedAt 0 40)))
+      × ((w : Other) → frameCall [] t (new-first w) ≡ part t (low (new-key w) (this-month w) 7 (carriedAt 0 40)))
+      × (frameCall [] t elided-frame ≡ part t (low old-key resent 7 (elidedAt 0 40)))
+  unfolding byte be16 le16 byteBytes be16Bytes be32Bytes be64Bytes put supported saysElements hasSequence omitsSequence hasAddressing carried01 carried panField addressField side sides addressing auxiliary Mac.sequence Mac.sequenceOf Mac.reprOf Mac.headerRest Mac.afterControl Mac.header Mac.mac dispatchOf dispatch fragRest frag nextHeader nhcOf nhc bothPorts ports checksum udpRest udp Iphc.base Iphc.contexts Iphc.traffic Iphc.hopLimit Iphc.frontRest Iphc.front Iphc.identifier Iphc.prefixOf Iphc.elided Iphc.source Iphc.destination Iphc.addresses Iphc.reprOf Iphc.behind Iphc.iphc Full.frontWith Full.bothBytes Full.ipv6With Full.udpFull octets extData extBody innerByte udpStep linkOf link behindNext headerThen udpEnd onward chain chained extFull sizeOf fullBytes sumIn Expand.bytesOf Expand.sized Expand.expansion meshField broadcastField relay framed arrival piece fragment payload addressed keyOf content frameCall zeroed
+  first-brings = (refl, new, refl)
+    where
+      new : (w : Other) → frameCall [] t (new-first w) ≡ part t (low (new-key w) (this-month w) 7 (carriedAt 0 40))
+      new neighbour = refl
+      new building = refl
 
   pub later-brings :
-      (w : Other)
-      → (frameCall (gateways w) [] t old-later ≡ part t (high old-key last-month 7 (carriedAt 0 40)))
-      × (frameCall (gateways w) [] t (new-later w) ≡ part t (high (new-key w) (this-month w) 7 (carriedAt 0 40)))
-      × (frameCall (gateways w) [] t resent-later ≡ part t (high old-key resent 7 (elidedAt 0 40)))
-  unfolding byte be16 le16 supported saysElements hasSequence omitsSequence hasAddressing carried01 carried panField addressField side sides addressing auxiliary Mac.sequence Mac.sequenceOf Mac.reprOf Mac.headerRest Mac.afterControl Mac.header Mac.mac dispatchOf dispatch fragRest frag meshField broadcastField relay framed arrival piece fragment payload count sameSource sameNode present addressed isGate keyOf welcome admitted frameCall zeroed
-  later-brings neighbour = (refl, refl, refl)
-  later-brings building = (refl, refl, refl)
+      (frameCall [] t old-later ≡ part t (high old-key last-month 7 (carriedAt 0 40)))
+      × ((w : Other) → frameCall [] t (new-later w) ≡ part t (high (new-key w) (this-month w) 7 (carriedAt 0 40)))
+      × (frameCall [] t resent-later ≡ part t (high old-key resent 7 (elidedAt 0 40)))
+  unfolding byte be16 le16 supported saysElements hasSequence omitsSequence hasAddressing carried01 carried panField addressField side sides addressing auxiliary Mac.sequence Mac.sequenceOf Mac.reprOf Mac.headerRest Mac.afterControl Mac.header Mac.mac dispatchOf dispatch fragRest frag meshField broadcastField relay framed arrival piece fragment payload addressed keyOf content frameCall zeroed
+  later-brings = (refl, new, refl)
+    where
+      new : (w : Other) → frameCall [] t (new-later w) ≡ part t (high (new-key w) (this-month w) 7 (carriedAt 0 40))
+      new neighbour = refl
+      new building = refl

@@ -14,8 +14,10 @@ use Rattle.octets.specs.Write.{put}
 use Rattle.expand.proofs.CopyLaws.{length-put}
 use Rattle.reassembly.specs.Slots.{owner, freeSlot, opened, gatesOf, isGate, mayOpen}
 use Rattle.reassembly.specs.Parts.{Part, Reply, kept, refused, fits, repeats, taken, written, full, Put, place, offer}
+use Rattle.reassembly.specs.Table as Table
 use Rattle.reassembly.specs.Table.{Call, short, other, part, State, Result, chunk, splice, untouched, slotsAt, pass, land, whereKey, whereFree, offerAt, openAt, takePart, step}
 use Rattle.reassembly.specs.declared.slot.Slot.{Slot}
+use Rattle.reassembly.specs.declared.slot.Source.{Source}
 use Rattle.reassembly.proofs.Tests.{no-both, by-test, by-order}
 use Rattle.reassembly.proofs.Parts.{offer-repeat}
 use Rattle.reassembly.proofs.Fits.{fit}
@@ -102,26 +104,28 @@ splice-back m i = put-back 2048 (i * 2048) m
 
 -- ---- what a call writes
 
--- the call c, the memory m before and m′ after: nothing is taken and the memory is as it was; or the part is taken, and stands at its place in slot i
-pub data Writes (c : Call) (m m′ : List ℕ) (took : Bool) : Type 0 where
-  nothing : took ≡ false → m′ ≡ m → Writes c m m′ took
-  own : (t : ℕ) (p : Part) (i : ℕ) → c ≡ part t p → took ≡ true → fits p ≡ true → m′ ≡ put (i * 2048 + p .unit * 8) (p .bytes) m → Writes c m m′ took
+-- the call c, the memory m before and m′ after: nothing is taken and the memory is as it was; or the part, of a gateway of gs, is taken, and stands
+-- at its place in slot i
+pub data Writes (gs : List Source) (c : Call) (m m′ : List ℕ) (took : Bool) : Type 0 where
+  nothing : took ≡ false → m′ ≡ m → Writes gs c m m′ took
+  own : (t : ℕ) (p : Part) (i : ℕ) → c ≡ part t p → took ≡ true → isGate (owner (p .key)) gs ≡ true → fits p ≡ true → m′ ≡ put (i * 2048 + p .unit * 8) (p .bytes) m
+      → Writes gs c m m′ took
 
-abbrev Wrote : State → Call → Result → Type 0
-Wrote σ c r = Writes c (σ .mem) (r .state .mem) (r .took)
+abbrev pub Wrote : State → Call → Result → Type 0
+Wrote σ c r = Writes (gatesOf (σ .table)) c (σ .mem) (r .state .mem) (r .took)
 
 place-bytes : (s : Slot) (b : List ℕ) (p : Part) → ((place s b p) .bytes ≡ written b p) × ((place s b p) .took ≡ true)
 unfolding place
 place-bytes s b p = by-test (full (taken s p)) (λ x. rw x (refl, refl)) (λ x. rw x (refl, refl))
 
-module _ (σ : State) (t : ℕ) (p : Part) (ok : fits p ≡ true) where
+module _ (σ : State) (t : ℕ) (p : Part) (gate : isGate (owner (p .key)) (gatesOf (σ .table)) ≡ true) (ok : fits p ≡ true) where
   -- what is put in slot i, o the slots that it opened
   land-placed : (i o : ℕ) (s : Slot) (r : Put) → r ≡ place s (chunk i (σ .mem)) p → Wrote σ (part t p) (land σ t i o r)
   unfolding land
   land-placed i o s r q =
       let w = place-bytes s (chunk i (σ .mem)) p in
       let F = fit p ok in
-      own t p i refl (ap (λ (z : Put). z .took) q ∙ w .1) ok
+      own t p i refl (ap (λ (z : Put). z .took) q ∙ w .1) gate ok
       (ap (λ (z : Put). splice (σ .mem) i (z .bytes)) q ∙ ap (splice (σ .mem) i) (w .0)
       ∙ splice-put (σ .mem) i (p .unit * 8) (p .bytes) (omega (arith, F .ends, F .small)))
 
@@ -162,25 +166,24 @@ part-writes σ t p =
     either W (isGate (owner (p .key)) (gatesOf (σ .table))) _ _
     (λ g. either W (fits p) _ _
     (λ ok. either W (ltb (whereKey (p .key) t σ) 8) _ _
-    (λ h. offer-writes σ t p ok (whereKey (p .key) t σ))
+    (λ h. offer-writes σ t p g ok (whereKey (p .key) t σ))
     (either W (mayOpen (owner (p .key)) (gatesOf (σ .table)) (slotsAt t σ)) _ _
-    (λ h. open-writes σ t p ok (whereFree t σ))
+    (λ h. open-writes σ t p g ok (whereFree t σ))
     (pass-writes σ t (refused 12) (part t p))))
     (pass-writes σ t (refused 10) (part t p)))
     (pass-writes σ t (refused 9) (part t p))
 
-pub step-writes : (σ : State) (c : Call) → Writes c (σ .mem) ((step σ c) .state .mem) ((step σ c) .took)
+pub step-writes : (σ : State) (c : Call) → Wrote σ c (step σ c)
 unfolding step
 step-writes σ short = untouched-writes σ 7 short
-step-writes σ (other t a) =
-    either (Wrote σ (other t a)) (ltb t (σ .table .last)) _ _ (λ h. untouched-writes σ 8 (other t a)) (pass-writes σ t a (other t a))
-step-writes σ (part t p) =
-    either (Wrote σ (part t p)) (ltb t (σ .table .last)) _ _ (λ h. untouched-writes σ 8 (part t p)) (part-writes σ t p)
+step-writes σ (other t a) = either (Wrote σ _) (ltb t (σ .table .last)) _ _ (λ h. untouched-writes σ 8 _) (pass-writes σ t a _)
+step-writes σ (Table.from t g a) = either (Wrote σ _) (ltb t (σ .table .last)) _ _ (λ h. untouched-writes σ 8 _) (pass-writes σ t _ _)
+step-writes σ (part t p) = either (Wrote σ _) (ltb t (σ .table .last)) _ _ (λ h. untouched-writes σ 8 _) (part-writes σ t p)
 
 -- what is not taken, a repeat among it, writes nothing
-pub untaken-unwritten : (c : Call) (m m′ : List ℕ) (took : Bool) → Writes c m m′ took → took ≡ false → m′ ≡ m
-untaken-unwritten c m m′ took (nothing k w) e = w
-untaken-unwritten c m m′ took (own t p i q k ok w) e = no-both took k e
+pub untaken-unwritten : (gs : List Source) (c : Call) (m m′ : List ℕ) (took : Bool) → Writes gs c m m′ took → took ≡ false → m′ ≡ m
+untaken-unwritten gs c m m′ took (nothing k w) e = w
+untaken-unwritten gs c m m′ took (own t p i q k g ok w) e = no-both took k e
 
 -- byte x of the memory is one of p's, in slot i
 pub record Inside (p : Part) (i x : ℕ) : Type 0 where
@@ -188,10 +191,10 @@ pub record Inside (p : Part) (i x : ℕ) : Type 0 where
   pub ends : x < i * 2048 + p .unit * 8 + length (p .bytes)
 
 -- a part goes to one slot, and changes no byte outside its own range there
-pub writes-inside : (t : ℕ) (p : Part) (m m′ : List ℕ) (took : Bool) → Writes (part t p) m m′ took
+pub writes-inside : (gs : List Source) (t : ℕ) (p : Part) (m m′ : List ℕ) (took : Bool) → Writes gs (part t p) m m′ took
     → (i : ℕ) × ((x : ℕ) → (Inside p i x → ⊥) → getD m′ x 0 ≡ getD m x 0)
-writes-inside t p m m′ took (nothing k w) = (0, λ x h. ap (λ (l : List ℕ). getD l x 0) w)
-writes-inside t p m m′ took (own u q i z k ok w) =
+writes-inside gs t p m m′ took (nothing k w) = (0, λ x h. ap (λ (l : List ℕ). getD l x 0) w)
+writes-inside gs t p m m′ took (own u q i z k g ok w) =
     let r : q ≡ p = cc in
     (i, λ x h. ap (λ (l : List ℕ). getD l x 0) w ∙ outside-of q i x (rw r h))
   where
@@ -202,10 +205,10 @@ writes-inside t p m m′ took (own u q i z k ok w) =
         (λ b. absurd (h (record { begins = a; ends = b }))))
         (λ a. getD-out (q .bytes) m (i * 2048 + q .unit * 8) x (inl a))
 
--- what brings no part writes nothing
-pub writes-nothing : (c : Call) (m m′ : List ℕ) (took : Bool) → Writes c m m′ took → ((t : ℕ) (p : Part) → c ≡ part t p → ⊥) → m′ ≡ m
-writes-nothing c m m′ took (nothing k w) f = w
-writes-nothing c m m′ took (own t p i q k ok w) f = absurd (f t p q)
+-- what brings no part of a gateway writes nothing
+pub writes-nothing : (gs : List Source) (c : Call) (m m′ : List ℕ) (took : Bool) → Writes gs c m m′ took → ((t : ℕ) (p : Part) → c ≡ part t p → isGate (owner (p .key)) gs ≡ true → ⊥) → m′ ≡ m
+writes-nothing gs c m m′ took (nothing k w) f = w
+writes-nothing gs c m m′ took (own t p i q k g ok w) f = absurd (f t p q g)
 
 -- ---- a repeat: "same first byte, length and bytes as a part taken: kept, nothing written"
 
@@ -236,6 +239,6 @@ repeat-unwritten σ t p R =
     let o = offer-repeat (getD (slotsAt t σ) i freeSlot) (chunk i (σ .mem)) p (R .same) in
     let at : step σ (part t p) ≡ offerAt σ t p i = offered-at σ t p R in (
       ap (λ (r : Result). r .reply) at ∙ offer-reply σ t p i ∙ ap (λ (z : Put). z .reply) o,
-      untaken-unwritten (part t p) (σ .mem) ((step σ (part t p)) .state .mem) ((step σ (part t p)) .took) (step-writes σ (part t p))
+      untaken-unwritten _ (part t p) (σ .mem) ((step σ (part t p)) .state .mem) ((step σ (part t p)) .took) (step-writes σ (part t p))
           (ap (λ (r : Result). r .took) at ∙ offer-took σ t p i ∙ ap (λ (z : Put). z .took) o),
     )

@@ -49,7 +49,7 @@ EightSlots =
 abbrev pub NeverMeet : Type 0
 NeverMeet =
     (gs : List Source) (m : List ℕ) → Gateways gs → 16384 ≤ length m → (hs : List Turn) (h : Turn) → Ran (begun gs m) (hs ++ (h ∷ []))
-    → (p : Part) → MeansPart gs m h p → (n : ℕ) → h .returned .answer ≡ Outcome.Out n → HandedOut gs m (p .key) hs h n
+    → (p : Part) → MeansPart h p → (n : ℕ) → h .returned .answer ≡ Outcome.Out n → HandedOut gs m (p .key) hs h n
 
 -- ---- for the library: answers are numbers (lift/specs/Face.antt), and the caller keeps the table
 
@@ -75,4 +75,4 @@ LiftEightSlots =
 abbrev pub LiftNeverMeet : Type 0
 LiftNeverMeet =
     (gs : List Source) (m : List ℕ) → Gateways gs → 16384 ≤ length m → (hs : List LiftTurn) (h : LiftTurn) → RanIn (begun gs m) (hs ++ (h ∷ []))
-    → (p : Part) → MeansPart gs m (asTurn h) p → (n : ℕ) → h .answer ≡ 65536 + n → n < 65536 → HandedOut gs m (p .key) (map asTurn hs) (asTurn h) n
+    → (p : Part) → MeansPart (asTurn h) p → (n : ℕ) → h .answer ≡ 65536 + n → n < 65536 → HandedOut gs m (p .key) (map asTurn hs) (asTurn h) n

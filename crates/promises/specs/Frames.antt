@@ -2,17 +2,18 @@
 -- clause, with the customer's words in quotes.
 use Prim.Native.Nat.{ℕ, _+_, _≤_, _<_}
 use mathlib.Core.Path.{_≡_}
+use mathlib.Core.Bool.{true}
 use mathlib.Core.List.{List, [], _∷_, _++_, map}
 use lib.ListN.{length, drop}
 use Rattle.octets.specs.Read.{is}
-use Rattle.reassembly.specs.Slots.{gatesOf}
+use Rattle.reassembly.specs.Slots.{owner, isGate}
 use Rattle.reassembly.specs.Parts.{Part}
-use Rattle.reassembly.specs.Table.{Received, Call, part, State, step, Gives, takenSince}
+use Rattle.reassembly.specs.Table.{Received, Call, part, State, step, roomCall, Gives, takenSince}
 use Rattle.reassembly.specs.Fresh.{Gateways, begun}
 use Rattle.reassembly.specs.declared.slot.Source.{Source}
 use Rattle.reassembly.specs.declared.slot.Key.{Key}
 use Rattle.reassembly.specs.declared.part.Outcome.{Outcome}
-use Rattle.receiver.specs.Receive.{callOf}
+use Rattle.receiver.specs.Receive.{frameCall, callOf}
 use Rattle.receiver.specs.Names.{named}
 use Rattle.reassembly.specs.Cover.{In, Covers, MadeOf}
 use Rattle.promises.specs.Cuttings.{Cutting}
@@ -36,7 +37,7 @@ left h = record { table = h .returned .table; mem = h .memory }
 
 -- what comes to the table and the memory σ
 unfoldable pub callIn : State → Turn → Call
-callIn σ h = callOf (σ .mem) (h .before) (gatesOf (σ .table)) (h .contexts) (h .time) (h .frame)
+callIn σ h = callOf (σ .mem) (h .before) (h .contexts) (h .time) (h .frame)
 
 -- The calls meet the contract of `receive`, each with the table and the memory as the one before left them, the first with σ: the memory is
 -- lent, and only the calls write it. Any code that meets the contract has only such runs.
@@ -65,22 +66,21 @@ Forward n (h ∷ hs) = (n ≤ h .time) × Forward (h .time) hs
 
 -- ---- what comes under a key
 
-module _ (gs : List Source) (m : List ℕ) where
-  -- what comes in a call, to a table of the gateways gs and a memory as long as m
-  abbrev pub meant : Turn → Call
-  meant h = callOf m (h .before) gs (h .contexts) (h .time) (h .frame)
+-- what comes in a call, where enough memory is lent, whatever table it comes to
+abbrev pub meant : Turn → Call
+meant h = roomCall (h .before) (frameCall (h .contexts) (h .time) (h .frame))
 
-  -- the call brings the part p: it passes every check up to 9
-  abbrev pub MeansPart : Turn → Part → Type 0
-  MeansPart h p = meant h ≡ part (h .time) p
+-- the call brings the part p: it passes every check before 10, but for 9, which is the table's
+abbrev pub MeansPart : Turn → Part → Type 0
+MeansPart h p = meant h ≡ part (h .time) p
 
-  -- the parts that calls bring under k
-  unfoldable pub partsOf : Key → List Turn → List Part
-  partsOf k hs = came k (map meant hs)
+-- the parts that calls bring under k
+unfoldable pub partsOf : Key → List Turn → List Part
+partsOf k hs = came k (map meant hs)
 
-  -- those taken under k since its slot was opened
-  unfoldable pub takenOf : Key → List Turn → List Part
-  takenOf k hs = takenSince k (begun gs m) (map meant hs) []
+-- those that a table of the gateways gs took under k since its slot was opened
+unfoldable pub takenOf : List Source → List ℕ → Key → List Turn → List Part
+takenOf gs m k hs = takenSince k (begun gs m) (map meant hs) []
 
 -- ---- demand 3
 
@@ -94,6 +94,8 @@ pub record Supposed (gs : List Source) (m : List ℕ) (k : Key) (d : List ℕ) (
   pub enough : 16384 ≤ length m
   -- "and a clock that never goes back":
   pub forward : Forward 0 (past ++ (mid ++ (c ∷ [])))
+  -- "if a gateway": the source of the key is one;
+  pub gate : isGate (owner k) gs ≡ true
   -- "the earliest part of a datagram" comes in the first of the calls from there on;
   pub first : Turn
   pub then : List Turn
@@ -102,10 +104,10 @@ pub record Supposed (gs : List Source) (m : List ℕ) (k : Key) (d : List ℕ) (
   -- "all its parts are of one cutting in 01's sense, nothing else comes meanwhile under its source, destination, size and tag": what comes
   -- under the key brings a part of the cutting. (Less suffices, as Runs.antt has it: what is refused before check 11, so too for lack of room,
   -- changes nothing.)
-  pub of-cutting : (h : Turn) → In h (mid ++ (c ∷ [])) → named (h .frame) ≡ is k → (p : Part) × In p (C .parts) × MeansPart gs m h p
+  pub of-cutting : (h : Turn) → In h (mid ++ (c ∷ [])) → named (h .frame) ≡ is k → (p : Part) × In p (C .parts) × MeansPart h p
   -- "and they cover it": with the covering call, and not before it,
-  pub cover : Covers (k .size) (partsOf gs m k (mid ++ (c ∷ [])))
-  pub not-before : Covers (k .size) (partsOf gs m k mid) → ⊥
+  pub cover : Covers (k .size) (partsOf k (mid ++ (c ∷ [])))
+  pub not-before : Covers (k .size) (partsOf k mid) → ⊥
   -- "less than 60 seconds after that earliest part",
   pub soon : c .time < first .time + 60000
 

@@ -11,7 +11,7 @@ use Rattle.reassembly.specs.Fresh.{Gateways}
 use Rattle.reassembly.specs.Parts as Parts
 use Rattle.reassembly.specs.Parts.{Part, partOf, told, outputAfter}
 use Rattle.reassembly.specs.Table as Table
-use Rattle.reassembly.specs.Table.{Call, other, State, Result}
+use Rattle.reassembly.specs.Table.{Call, from, State, Result}
 use Rattle.reassembly.specs.declared.slot.Key.{Key}
 use Rattle.reassembly.specs.declared.slot.Source.{Source}
 use Rattle.ieee802154.specs.declared.addr.PanField.{PanField}
@@ -41,7 +41,7 @@ partFor l d (Later at n) = partOf (keyFor l d) (at / 8) noSum (take n (drop at d
 
 -- what its frame brings: the datagram itself where one frame suffices
 abbrev pub callFor : Link → List ℕ → ℕ → Piece → Call
-callFor l d t Whole = other t (tested (sumSent d) d)
+callFor l d t Whole = from t (sender l) (tested (sumSent d) d)
 callFor l d t (First n) = Table.part t (partFor l d (First n))
 callFor l d t (Later at n) = Table.part t (partFor l d (Later at n))
 

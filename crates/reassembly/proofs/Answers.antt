@@ -13,9 +13,10 @@ use borrow.Author.Tests.{ltb-false, lt-ltb, le-ltb, leb-true}
 use Rattle.reassembly.specs.Lists.{count, firstAt, those}
 use Rattle.reassembly.specs.Slots.{present, owner, freeSlot, opened, isFree, isKey, expired, expire1, expire, gatesOf, isGate, free, mayOpen, opening}
 use Rattle.reassembly.specs.Parts.{Part, Reply, refused, fitsIn, fits, Put, place, offer, Placeable}
-use Rattle.reassembly.specs.Table.{Call, State, Result, other, part, short, chunk, splice, withSlots, untouched, slotsAt, pass, land, whereKey, whereFree, offerAt, openAt, takePart, step, lentCall, At, Aged}
+use Rattle.reassembly.specs.Table.{Call, State, Result, other, from, part, short, chunk, splice, withSlots, untouched, slotsAt, pass, land, whereKey, whereFree, offerAt, openAt, fromGate, takePart, step, lentCall, At, Aged}
 use Rattle.reassembly.specs.declared.slot.Key.{Key}
 use Rattle.reassembly.specs.declared.slot.Slot.{Slot}
+use Rattle.reassembly.specs.declared.slot.Source.{Source}
 use Rattle.reassembly.specs.declared.table.Table.{Table}
 use Rattle.reassembly.proofs.Tests.{by-test, and-left, and-right}
 use Rattle.reassembly.proofs.Lists.{getD-any, firstAt-holds, firstAt-found}
@@ -152,6 +153,7 @@ earlier : (tb : Table) (m : List ℕ) (t : ℕ) (c : Call) → At c t → t < tb
 unfolding step
 earlier tb m t short e h = absurd e
 earlier tb m t (other u a) e h = rw (e, lt-ltb t (tb .last) h)
+earlier tb m t (from u g a) e h = rw (e, lt-ltb t (tb .last) h)
 earlier tb m t (part u p) e h = rw (e, lt-ltb t (tb .last) h)
 
 -- whatever comes, 7 and 8 go first
@@ -166,13 +168,19 @@ module _ (tb : Table) (m o : List ℕ) (t : ℕ) (c : Call) where
 
 -- a call that brings no part: the time is taken, old slots are freed, and it is answered
 module _ (tb : Table) (m o : List ℕ) (t : ℕ) (enough : (ltb (length m) 16384 || ltb (length o) 2047) ≡ false) (late : tb .last ≤ t) (x : Table) (e : x ≡ withSlots tb t (expire t (tb .slots))) where
-  others : (a : Reply (List ℕ)) → step (state tb m) (lentCall m o (other t a)) ≡ pass (state tb m) t a
-  unfolding step lentCall
-  others a = rw (enough, le-ltb t (tb .last) late)
-
   pub leaves-other : (a : Reply (List ℕ)) → Leaves (step (state tb m) (lentCall m o (other t a))) a x m
-  unfolding pass slotsAt
-  leaves-other a = rw (others a) record { reply = refl; table = e; memory = refl }
+  unfolding step lentCall pass slotsAt
+  leaves-other a = rw (enough, le-ltb t (tb .last) late) record { reply = refl; table = e; memory = refl }
+
+-- what a gateway sends is answered as if nobody asked who sends it
+pub from-gate : (σ : State) (t : ℕ) (g : Source) (a : Reply (List ℕ)) → isGate g (gatesOf (σ .table)) ≡ true → step σ (from t g a) ≡ step σ (other t a)
+unfolding step fromGate
+from-gate σ t g a k = rw k refl
+
+-- what is the same to the table is so with what is lent
+pub lent-same : (σ : State) (m o : List ℕ) (c d : Call) → step σ c ≡ step σ d → step σ (lentCall m o c) ≡ step σ (lentCall m o d)
+unfolding lentCall
+lent-same σ m o c d q = by-test (ltb (length m) 16384 || ltb (length o) 2047) (λ e. rw e refl) (λ e. rw e q)
 
 -- a part
 module _ (tb : Table) (m o : List ℕ) (t : ℕ) (p : Part) where

@@ -11,7 +11,7 @@ use lib.Seq.{getD-set-same, getD-set-other, getD-take, length-take-le}
 use Rattle.reassembly.specs.Lists.{count}
 use Rattle.reassembly.specs.Slots.{sameKey, freeSlot, opened, isKey, expired, expire1, expire}
 use Rattle.reassembly.specs.Parts.{Part, Reply, kept, out, refused, fits, repeats, touches, takenIn, taken, written, full, finish, handed, Put, place, offer}
-use Rattle.reassembly.specs.Table.{Call, short, other, part, State, Result, chunk, splice, withSlots, untouched, slotsAt, pass, land, offerAt, openAt, step, next, run, note, takenSince}
+use Rattle.reassembly.specs.Table.{Call, short, other, from, part, State, Result, chunk, splice, withSlots, untouched, slotsAt, pass, land, offerAt, openAt, step, next, run, note, takenSince}
 use Rattle.reassembly.specs.Fresh.{fresh, begun}
 use Rattle.reassembly.specs.declared.slot.Source.{Source}
 use Rattle.reassembly.specs.declared.slot.Key.{Key}
@@ -35,6 +35,7 @@ note-no : (k : Key) (c : Call) (r : Result) (h : List Part) → r .took ≡ fals
 unfolding note
 note-no k short r h e = refl
 note-no k (other t a) r h e = refl
+note-no k (from t g a) r h e = refl
 note-no k (part t p) r h e = rw e
 
 note-other : (k : Key) (t : ℕ) (p : Part) (r : Result) (h : List Part) → sameKey (p .key) k ≡ false → note k (part t p) r h ≡ h
@@ -277,15 +278,17 @@ placed-made k h s b p d H e f c sk a = by-test (full (taken s p))
 abbrev pub Under : Key → Call → Type 0
 Under k short = ⊥
 Under k (other t a) = ⊥
+Under k (from t g a) = ⊥
 Under k (part t p) = p .key ≡ k
 
 not-out : {X : Type 0} (n : ℕ) (a : Reply (List ℕ)) (d : List ℕ) → a ≡ refused n → a ≡ out d → X
 not-out n a d p q = let z : _≡_ {A = ℕ} 0 1 = cc in absurd (omega arith)
 
-under-says : (k : Key) (c : Call) (a : Reply (List ℕ)) → Under k c → Says c a → (n : ℕ) × (a ≡ refused n)
-under-says k short a u v = absurd u
-under-says k (other t x) a u v = absurd u
-under-says k (part t p) a u v = v
+under-says : (k : Key) (σ : State) (c : Call) (a : Reply (List ℕ)) → Under k c → Says σ c a → (n : ℕ) × (a ≡ refused n)
+under-says k σ short a u v = absurd u
+under-says k σ (other t x) a u v = absurd u
+under-says k σ (from t g x) a u v = absurd u
+under-says k σ (part t p) a u v = v
 
 made-offered : (k : Key) (σ : State) (h : List Part) (d : List ℕ) → Good σ → (t : ℕ) (p : Part) (j : ℕ) → Offered σ t p j → Told k σ h → p .key ≡ k
     → (offer (getD (slotsAt t σ) j freeSlot) (chunk j (σ .mem)) p) .reply ≡ out d
@@ -331,7 +334,7 @@ pub did-made : {c : Call} {r : Result} (k : Key) (σ : State) (h : List Part) (d
 unfolding untouched pass offerAt openAt land
 did-made k σ h d G lacking T u a = absurd u
 did-made k σ h d G (stale t l w) T u a = not-out 8 (refused 8) d refl a
-did-made {c} k σ h d G (passed t x l w v) T u a = let n = under-says k c x u v in not-out (n .0) x d (n .1) a
+did-made {c} k σ h d G (passed t x l w v) T u a = let n = under-says k σ c x u v in not-out (n .0) x d (n .1) a
 did-made k σ h d G (offered t p j O) T u a = made-offered k σ h d G t p j O T u a
 did-made k σ h d G (opens t p j O) T u a = made-opens k σ h d G t p j O u a
 

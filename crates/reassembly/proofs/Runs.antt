@@ -13,7 +13,7 @@ use Rattle.octets.specs.Read.{choose}
 use Rattle.reassembly.specs.Lists.{bit, count, firstAt, those}
 use Rattle.reassembly.specs.Slots.{noNode, addressed, noSource, sameSource, present, sameKey, owner, busy, freeSlot, opened, isFree, isKey, isOf, expired, gatesOf, isGate, held, free, mayOpen}
 use Rattle.reassembly.specs.Parts.{Part, Reply, kept, out, refused, fits, repeats, touches, takenIn, taken, written, full, Put, place, offer}
-use Rattle.reassembly.specs.Table.{Call, short, other, part, State, Result, chunk, splice, withSlots, untouched, slotsAt, aged, pass, land, whereKey, whereFree, offerAt, openAt, takePart, step, At, comes, Ready, after, next, run, opensIn, endsIn}
+use Rattle.reassembly.specs.Table.{Call, short, other, from, part, State, Result, chunk, splice, withSlots, untouched, slotsAt, aged, pass, land, whereKey, whereFree, offerAt, openAt, fromGate, takePart, timely, step, At, comes, Ready, after, next, run, opensIn, endsIn}
 use Rattle.reassembly.specs.Fresh.{seats, fresh, Gateways, begun}
 use Rattle.reassembly.specs.declared.slot.Source.{Source}
 use Rattle.reassembly.specs.declared.slot.Key.{Key}
@@ -80,15 +80,16 @@ pub record Opens (σ : State) (t : ℕ) (p : Part) (j : ℕ) : Type 0 where
   pub was-free : isFree (getD (slotsAt t σ) j freeSlot) ≡ true
 
 -- what a call answers that comes to no slot
-abbrev pub Says : Call → Reply (List ℕ) → Type 0
-Says short a = ⊥
-Says (other u b) a = b ≡ a
-Says (part u p) a = (n : ℕ) × (a ≡ refused n)
+abbrev pub Says : State → Call → Reply (List ℕ) → Type 0
+Says σ short a = ⊥
+Says σ (other u b) a = b ≡ a
+Says σ (from u g b) a = fromGate g (gatesOf (σ .table)) b ≡ a
+Says σ (part u p) a = (n : ℕ) × (a ≡ refused n)
 
 pub data Did (σ : State) : Call → Result → Type 0 where
   lacking : Did σ short (untouched σ 7)
   stale : {c : Call} (t : ℕ) → t < σ .table .last → At c t → Did σ c (untouched σ 8)
-  passed : {c : Call} (t : ℕ) (a : Reply (List ℕ)) → σ .table .last ≤ t → At c t → Says c a → Did σ c (pass σ t a)
+  passed : {c : Call} (t : ℕ) (a : Reply (List ℕ)) → σ .table .last ≤ t → At c t → Says σ c a → Did σ c (pass σ t a)
   offered : (t : ℕ) (p : Part) (i : ℕ) → Offered σ t p i → Did σ (part t p) (offerAt σ t p i)
   opens : (t : ℕ) (p : Part) (j : ℕ) → Opens σ t p j → Did σ (part t p) (openAt σ t p j)
 
@@ -124,15 +125,17 @@ takePart-did σ t p G c =
     (λ e2. rw (e1, e2) (passed {c = part t p} t (refused 10) c refl (10, refl))))
     (λ e1. rw e1 (passed {c = part t p} t (refused 9) c refl (9, refl)))
 
+timely-did : (σ : State) (c : Call) (t : ℕ) (r : Result) → At c t → (σ .table .last ≤ t → Did σ c r) → Did σ c (timely σ t r)
+timely-did σ c t r w f = by-test (ltb t (σ .table .last))
+    (λ e. rw e (stale t (ltb-true t (σ .table .last) e) w))
+    (λ e. rw e (f (ltb-false t (σ .table .last) e)))
+
 pub step-did : (σ : State) (c : Call) → Good σ → Did σ c (step σ c)
 unfolding step
 step-did σ short G = lacking
-step-did σ (other t a) G = by-test (ltb t (σ .table .last))
-    (λ e. rw e (stale t (ltb-true t (σ .table .last) e) refl))
-    (λ e. rw e (passed {c = other t a} t a (ltb-false t (σ .table .last) e) refl refl))
-step-did σ (part t p) G = by-test (ltb t (σ .table .last))
-    (λ e. rw e (stale t (ltb-true t (σ .table .last) e) refl))
-    (λ e. rw e (takePart-did σ t p G (ltb-false t (σ .table .last) e)))
+step-did σ (other t a) G = timely-did σ (other t a) t _ refl (λ h. passed t a h refl refl)
+step-did σ (from t g a) G = timely-did σ (from t g a) t _ refl (λ h. passed t (fromGate g (gatesOf (σ .table)) a) h refl refl)
+step-did σ (part t p) G = timely-did σ (part t p) t _ refl (takePart-did σ t p G)
 
 -- the slot that a part is offered to, or that is opened for it, as it stands then
 pub len-at : (σ : State) (t : ℕ) → Good σ → length (slotsAt t σ) ≡ 8
@@ -381,6 +384,7 @@ own-opens k σ t p G K R =
 pub at-after : (c : Call) (n t : ℕ) → At c t → after n c ≡ t
 at-after short n t e = absurd e
 at-after (other u a) n t e = e
+at-after (from u g a) n t e = e
 at-after (part u p) n t e = e
 
 pub did-last : {c : Call} {r : Result} (σ : State) → Did σ c r → σ .table .last ≤ after (σ .table .last) c
@@ -398,6 +402,7 @@ pub comes-one : (k : Key) (c : Call) → (comes k c ≡ []) ⊎ ((p : Part) × (
 unfolding comes
 comes-one k short = inl refl
 comes-one k (other t a) = inl refl
+comes-one k (from t g a) = inl refl
 comes-one k (part t p) = by-test (sameKey (p .key) k && fits p)
     (λ e. inr (p, rw e))
     (λ e. inl (rw e))
@@ -412,6 +417,7 @@ pub comes-brought : (k : Key) (c : Call) (q : Part) → comes k c ≡ q ∷ [] �
 unfolding comes
 comes-brought k short q e = let z : _≡_ {A = ℕ} 0 1 = cc in absurd (omega arith)
 comes-brought k (other t a) q e = let z : _≡_ {A = ℕ} 0 1 = cc in absurd (omega arith)
+comes-brought k (from t g a) q e = let z : _≡_ {A = ℕ} 0 1 = cc in absurd (omega arith)
 comes-brought k (part t p) q e = by-test (sameKey (p .key) k && fits p)
     (λ x.
     let y : (p ∷ []) ≡ (q ∷ []) = rw x at e in
@@ -490,3 +496,8 @@ pub run-gates : (cs : List Call) (σ : State) → Good σ → gatesOf (run σ cs
 unfolding run next
 run-gates [] σ G = refl
 run-gates (c ∷ cs) σ G = run-gates cs (next σ c) (did-good σ G (step-did σ c G)) ∙ did-gates σ (step-did σ c G)
+
+pub run-length : (cs : List Call) (σ : State) → Good σ → length (run σ cs .mem) ≡ length (σ .mem)
+unfolding run next
+run-length [] σ G = refl
+run-length (c ∷ cs) σ G = run-length cs (next σ c) (did-good σ G (step-did σ c G)) ∙ did-length σ (step-did σ c G)

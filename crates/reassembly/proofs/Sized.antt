@@ -15,7 +15,7 @@ use Rattle.reassembly.specs.Lists.{count}
 use Rattle.reassembly.specs.Slots.{owner, freeSlot, opened, isFree, isKey, gatesOf, isGate, free, mayOpen}
 use Rattle.reassembly.specs.Parts as Parts
 use Rattle.reassembly.specs.Parts.{Part, Reply, kept, out, fits, takenIn, full, finish, handed, place, offer}
-use Rattle.reassembly.specs.Table.{Call, short, other, part, State, chunk, untouched, pass, land, offerAt, openAt, slotsAt, whereKey, whereFree, takePart, stays, takeAt, step, lentCall}
+use Rattle.reassembly.specs.Table.{Call, short, other, from, part, State, chunk, untouched, pass, land, offerAt, openAt, slotsAt, whereKey, whereFree, fromGate, takePart, stays, takeAt, step, lentCall}
 use Rattle.reassembly.specs.declared.slot.Slot.{Slot}
 use Rattle.reassembly.specs.declared.table.Table.{Table}
 use Rattle.reassembly.proofs.Tests.{by-test}
@@ -88,12 +88,14 @@ part-sized σ t p eight enough =
 abbrev pub SizedCall : Call → Type 0
 SizedCall short = Unit {0}
 SizedCall (other t r) = Sized r
+SizedCall (from t g r) = Sized r
 SizedCall (part t p) = Unit {0}
 
 step-sized : (σ : State) (c : Call) → length (σ .table .slots) ≡ 8 → 16384 ≤ length (σ .mem) → SizedCall c → Sized (step σ c .reply)
-unfolding step untouched pass
+unfolding fromGate step untouched pass
 step-sized σ short eight enough h = tt
 step-sized σ (other t r) eight enough h = by-test (ltb t (σ .table .last)) (λ e. rw e tt) (λ e. rw e h)
+step-sized σ (from t g r) eight enough h = by-test (ltb t (σ .table .last)) (λ e. rw e tt) (λ e. rw e (by-test (isGate g (gatesOf (σ .table))) (λ k. rw k h) (λ k. rw k tt)))
 step-sized σ (part t p) eight enough h = by-test (ltb t (σ .table .last)) (λ e. rw e tt) (λ e. rw e (part-sized σ t p eight enough))
 
 -- Every table has eight slots. A shorter list of slots would hand out no bytes at all for a part under a new key, which finds the end of

@@ -11,7 +11,7 @@ use Rattle.expand.specs.Sum.{holds}
 use Rattle.expand.specs.declared.checksum.UdpSum.{UdpSum}
 use Rattle.reassembly.specs.Slots.{owner, freeSlot, opened, gatesOf, isGate, mayOpen}
 use Rattle.reassembly.specs.Parts.{Part, Reply, kept, out, refused, fits, taken, full, handed, Put, place, offer}
-use Rattle.reassembly.specs.Table.{Call, short, other, part, State, Result, chunk, splice, untouched, slotsAt, pass, land, whereKey, whereFree, offerAt, openAt, takePart, step}
+use Rattle.reassembly.specs.Table.{Call, short, other, from, part, State, Result, chunk, splice, untouched, slotsAt, pass, land, whereKey, whereFree, offerAt, openAt, takePart, step}
 use Rattle.reassembly.specs.declared.slot.Slot.{Slot}
 use Rattle.reassembly.proofs.Tests.{by-test}
 use Rattle.reassembly.proofs.AtSlot.{put-back}
@@ -96,4 +96,5 @@ pub refused-unwritten : (σ : State) (c : Call) → Unwritten σ (step σ c)
 unfolding step
 refused-unwritten σ short = untouched-unwritten σ 7
 refused-unwritten σ (other t a) = either (Unwritten σ) (ltb t (σ .table .last)) _ _ (untouched-unwritten σ 8) (pass-unwritten σ t a)
+refused-unwritten σ (from t g a) = either (Unwritten σ) (ltb t (σ .table .last)) _ _ (untouched-unwritten σ 8) (pass-unwritten σ t _)
 refused-unwritten σ (part t p) = either (Unwritten σ) (ltb t (σ .table .last)) _ _ (untouched-unwritten σ 8) (part-unwritten σ t p)

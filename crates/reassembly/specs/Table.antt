@@ -12,16 +12,19 @@ use Rattle.reassembly.specs.Lists.{count, firstAt}
 use Rattle.reassembly.specs.Slots.{sameKey, owner, freeSlot, opened, isFree, isKey, expired, expire, gatesOf, isGate, mayOpen}
 use Rattle.reassembly.specs.Parts.{Part, Reply, kept, out, refused, told, ofOutcome, outputAfter, fits, Put, place, offer}
 use Rattle.reassembly.specs.declared.slot.Key.{Key}
+use Rattle.reassembly.specs.declared.slot.Source.{Source}
 use Rattle.reassembly.specs.declared.slot.Slot.{Slot}
 use Rattle.reassembly.specs.declared.part.Outcome.{Outcome}
 use Rattle.reassembly.specs.declared.part.InSlot.{InSlot}
 use Rattle.reassembly.specs.declared.table.Table.{Table}
 
--- What a call brings. short: too little was lent (7). other: anything but a part, with what it is answered (an unfragmented
--- datagram handed out, or a refusal). part: a fragment that passed every check up to 9.
+-- What a call brings, whatever table it comes to. short: too little was lent (7). other: what is answered so whoever sends it (a refusal of the
+-- MAC header, 13). from: anything else but a part, with its sender and what a gateway is answered (an unfragmented datagram handed out, or a
+-- refusal). part: a fragment that passed every check before 10 but 9; its key has its sender.
 pub data Call : Type 0 where
   short : Call
   other : ℕ → Reply (List ℕ) → Call
+  from : ℕ → Source → Reply (List ℕ) → Call
   part : ℕ → Part → Call
 
 -- the table, and the lent memory
@@ -102,6 +105,10 @@ takeAt s i t p m o =
     (stays s i m 12))
     (stays s i m 10))
 
+-- 9: the sender g is none of the gateways gs
+unfoldable pub fromGate : Source → List Source → Reply (List ℕ) → Reply (List ℕ)
+fromGate g gs a = choose (isGate g gs) a (refused 9)
+
 -- 9, 10, then 11 or 12
 unfoldable pub takePart : State → ℕ → Part → Result
 takePart σ t p =
@@ -115,13 +122,22 @@ takePart σ t p =
     (pass σ t (refused 10)))
     (pass σ t (refused 9))
 
+-- 8: the time t goes back
+abbrev pub timely : State → ℕ → Result → Result
+timely σ t r = choose (ltb t (σ .table .last)) (untouched σ 8) r
+
 -- 7; 8; then the time is taken
 unfoldable pub step : State → Call → Result
 step σ short = untouched σ 7
-step σ (other t a) = choose (ltb t (σ .table .last)) (untouched σ 8) (pass σ t a)
-step σ (part t p) = choose (ltb t (σ .table .last)) (untouched σ 8) (takePart σ t p)
+step σ (other t a) = timely σ t (pass σ t a)
+step σ (from t g a) = timely σ t (pass σ t (fromGate g (gatesOf (σ .table)) a))
+step σ (part t p) = timely σ t (takePart σ t p)
 
--- what comes with the lent memory m and the output o
+-- what comes with the output o, where enough memory is lent
+unfoldable pub roomCall : List ℕ → Call → Call
+roomCall o c = choose (ltb (length o) 2047) short c
+
+-- with the lent memory m and the output o
 unfoldable pub lentCall : List ℕ → List ℕ → Call → Call
 lentCall m o c = choose (ltb (length m) 16384 || ltb (length o) 2047) short c
 
@@ -156,12 +172,14 @@ pub record Aged (tb x : Table) (t : ℕ) : Type 0 where
 abbrev pub At : Call → ℕ → Type 0
 At short t = ⊥
 At (other u a) t = u ≡ t
+At (from u g a) t = u ≡ t
 At (part u p) t = u ≡ t
 
 -- the clock after a call, where it was n
 abbrev pub after : ℕ → Call → ℕ
 after n short = n
 after n (other t a) = t
+after n (from t g a) = t
 after n (part t p) = t
 
 -- as a call at t finds the table, once it has freed the old slots, k is not open and its gateway may open a slot
@@ -173,6 +191,7 @@ pub record Ready (k : Key) (σ : State) (t : ℕ) : Type 0 where
 unfoldable pub comes : Key → Call → List Part
 comes k short = []
 comes k (other t a) = []
+comes k (from t g a) = []
 comes k (part t p) = choose (sameKey (p .key) k && fits p) (p ∷ []) []
 
 unfoldable pub next : State → Call → State
@@ -195,6 +214,7 @@ endsIn σ (c ∷ cs) = (step σ c) .ends + endsIn (next σ c) cs
 unfoldable pub note : Key → Call → Result → List Part → List Part
 note k short r h = h
 note k (other t a) r h = h
+note k (from t g a) r h = h
 note k (part t p) r h = choose (r .took && sameKey (p .key) k) (choose (eqb (r .opens) 1) (p ∷ []) (p ∷ h)) h
 
 unfoldable pub takenSince : Key → State → List Call → List Part → List Part

@@ -1,12 +1,11 @@
--- What a call of `receive` brings: its own time, and where it brings a part, one under the key that the frame's headers name, from a gateway.
-use Prim.Native.Nat.{ℕ, _≤_}
+-- What a frame brings: its own time, and where it brings a part, one under the key that its headers name.
+use Prim.Native.Nat.{ℕ}
 use native.Mathlib.Omega.{arith}
 use mathlib.Core.Path.{_≡_, refl, sym, ap, ap₂, _∙_}
-use mathlib.Core.Logic.{_⊎_, inl, inr}
-use mathlib.Core.Bool.{true, false}
+use mathlib.Core.Logic.{_⊎_}
 use mathlib.Core.List.{List}
 use lib.ListN.{length}
-use Rattle.octets.specs.Read.{Answer, is, refused, andThen}
+use Rattle.octets.specs.Read.{Answer, is, refused}
 use Rattle.expand.specs.Sum.{holds}
 use Rattle.expand.specs.declared.checksum.UdpSum.{UdpSum}
 use Rattle.incoming.specs.Incoming.{arrival, Brought, datagram, payload}
@@ -14,17 +13,17 @@ use Rattle.incoming.specs.Incoming as Incoming
 use Rattle.incoming.specs.declared.arrival.Arrival.{Arrival}
 use Rattle.incoming.proofs.Names.{Headed, part-header}
 use Rattle.incoming.proofs.Sized.{SizedBrought, payload-sized}
-use Rattle.reassembly.specs.Slots.{nodeOf, addressed, owner, isGate}
+use Rattle.reassembly.specs.Slots.{nodeOf, addressed}
 use Rattle.reassembly.specs.Parts as Parts
 use Rattle.reassembly.specs.Parts.{Part}
-use Rattle.reassembly.specs.Table.{Call, short, other, part, lentCall, step, At, after}
+use Rattle.reassembly.specs.Table.{Call, short, other, from, part, roomCall, lentCall, step, At, after}
 use Rattle.reassembly.specs.declared.table.Table.{Table}
-use Rattle.reassembly.specs.declared.slot.Source.{Source}
 use Rattle.reassembly.specs.declared.slot.Key.{Key}
 use Rattle.reassembly.proofs.Tests.{by-test}
-use Rattle.reassembly.proofs.Lent.{not-other, lent-after, lent-part, lent-length}
+use Rattle.reassembly.proofs.Lent.{not-part, room-after, room-part}
+use Rattle.reassembly.proofs.Runs.{at-after}
 use Rattle.reassembly.proofs.Sized.{Sized, SizedCall, lent-sized}
-use Rattle.receiver.specs.Receive.{senderOf, keyOf, welcome, admitted, tested, brings, carries, frameCall, callOf}
+use Rattle.receiver.specs.Receive.{keyOf, content, tested, brings, carries, frameCall, callOf}
 use Rattle.receiver.specs.Names.{named}
 
 -- ---- a part that a call brings, and its time
@@ -32,78 +31,57 @@ use Rattle.receiver.specs.Names.{named}
 abbrev timeIn : Call → ℕ
 timeIn short = 0
 timeIn (other t a) = t
+timeIn (from t g a) = t
 timeIn (part t p) = t
 
 abbrev keyIn : Key → Call → Key
 keyIn k short = k
 keyIn k (other t a) = k
+keyIn k (from t g a) = k
 keyIn k (part t p) = p .key
 
 -- ---- a frame that brings a part
 
 -- the part p, at the time t, from the frame s
-pub record Comes (gs : List Source) (t : ℕ) (s : List ℕ) (u : ℕ) (p : Part) : Type 0 where
+pub record Comes (t : ℕ) (s : List ℕ) (u : ℕ) (p : Part) : Type 0 where
   pub time : u ≡ t
   pub name : named s ≡ is (p .key)
-  pub gate : isGate (owner (p .key)) gs ≡ true
 
 named-is : (s : List ℕ) (a : Arrival) (size tag : ℕ) → arrival s ≡ is a → Headed s (a .payload .at) size tag → named s ≡ is (keyOf a size tag)
 unfolding named
 named-is s a size tag e H = rw (e, H .header) (ap₂ (λ (x y : ℕ). is (keyOf a x y)) (H .size-is) (H .tag-is))
 
-key-gate : (gs : List Source) (a : Arrival) (size tag : ℕ) → isGate (senderOf a) gs ≡ true → isGate (owner (keyOf a size tag)) gs ≡ true
-unfolding keyOf
-key-gate gs a size tag g = g
-
-module _ (gs : List Source) (ctx : List ℕ) (t : ℕ) (s : List ℕ) (u : ℕ) (p : Part) where
-  brings-part : (a : Arrival) → arrival s ≡ is a → isGate (senderOf a) gs ≡ true → brings t a (payload ctx a s) ≡ part u p → Comes gs t s u p
-  brings-part a q g e = go (payload ctx a s) refl e
+module _ (ctx : List ℕ) (t : ℕ) (s : List ℕ) (u : ℕ) (p : Part) where
+  brings-part : (a : Arrival) → arrival s ≡ is a → brings t a (payload ctx a s) ≡ part u p → Comes t s u p
+  brings-part a q e = go (payload ctx a s) refl e
     where
-      go : (r : Answer Brought) → payload ctx a s ≡ r → brings t a r ≡ part u p → Comes gs t s u p
-      go (is (datagram d m)) f e = not-other t u _ p e
+      go : (r : Answer Brought) → payload ctx a s ≡ r → brings t a r ≡ part u p → Comes t s u p
+      go (is (datagram d m)) f e = not-part _ u p refl e
       go (is (Incoming.part size tag v bs el)) f e =
           let k : keyOf a size tag ≡ p .key = ap (keyIn (keyOf a size tag)) e in
           record {
             time = sym (ap timeIn e);
             name = named-is s a size tag q (part-header ctx a s size tag v bs el f) ∙ ap is k;
-            gate = rw (← k) (key-gate gs a size tag g);
           }
-      go (refused n) f e = not-other t u _ p e
+      go (refused n) f e = not-part _ u p refl e
 
-  pub frame-part : frameCall gs ctx t s ≡ part u p → Comes gs t s u p
-  unfolding frameCall admitted welcome
+  pub frame-part : frameCall ctx t s ≡ part u p → Comes t s u p
+  unfolding frameCall content
   frame-part e = go (arrival s) refl e
     where
-      go : (r : Answer Arrival) → arrival s ≡ r → carries t ctx s (andThen r (λ a. welcome gs a)) ≡ part u p → Comes gs t s u p
-      go (is a) q e = by-test (isGate (senderOf a) gs)
-          (λ g. by-test (addressed (nodeOf (a .dst)))
-          (λ y. brings-part a q g (rw (g, y) at e))
-          (λ y. not-other t u _ p (rw (g, y) at e)))
-          (λ g. not-other t u _ p (rw g at e))
-      go (refused n) q e = not-other t u _ p e
+      go : (r : Answer Arrival) → arrival s ≡ r → carries t ctx s r ≡ part u p → Comes t s u p
+      go (is a) q e = by-test (addressed (nodeOf (a .dst))) (λ y. brings-part a q (rw y at e)) (λ y. not-part _ u p refl (rw y at e))
+      go (refused n) q e = not-part _ u p refl e
 
 -- ---- its time
 
-carries-after : (n t : ℕ) (ctx s : List ℕ) (r : Answer Arrival) → after n (carries t ctx s r) ≡ t
-carries-after n t ctx s (is a) = go (payload ctx a s)
-  where
-    go : (r : Answer Brought) → after n (brings t a r) ≡ t
-    go (is (datagram d m)) = refl
-    go (is (Incoming.part size tag v bs el)) = refl
-    go (refused r) = refl
-carries-after n t ctx s (refused r) = refl
-
-frame-after : (n : ℕ) (gs : List Source) (ctx : List ℕ) (t : ℕ) (s : List ℕ) → after n (frameCall gs ctx t s) ≡ t
-unfolding frameCall
-frame-after n gs ctx t s = carries-after n t ctx s (admitted gs s)
-
-pub call-of : (m o : List ℕ) (gs : List Source) (ctx : List ℕ) (t : ℕ) (s : List ℕ) → lentCall m o (frameCall gs ctx t s) ≡ callOf m o gs ctx t s
+pub call-of : (m o ctx : List ℕ) (t : ℕ) (s : List ℕ) → lentCall m o (frameCall ctx t s) ≡ callOf m o ctx t s
 unfolding callOf
-call-of m o gs ctx t s = refl
+call-of m o ctx t s = refl
 
-pub frame-at : (gs : List Source) (ctx : List ℕ) (t : ℕ) (s : List ℕ) → At (frameCall gs ctx t s) t
+pub frame-at : (ctx : List ℕ) (t : ℕ) (s : List ℕ) → At (frameCall ctx t s) t
 unfolding frameCall
-frame-at gs ctx t s = go (admitted gs s)
+frame-at ctx t s = go (arrival s)
   where
     bring : (a : Arrival) (r : Answer Brought) → At (brings t a r) t
     bring a (is (datagram d m)) = refl
@@ -111,34 +89,18 @@ frame-at gs ctx t s = go (admitted gs s)
     bring a (refused r) = refl
 
     go : (r : Answer Arrival) → At (carries t ctx s r) t
-    go (is a) = bring a (payload ctx a s)
+    go (is a) = bring a (content ctx a s)
     go (refused r) = refl
 
--- ---- with the lent memory m and the output o
+-- ---- with the output o, where enough memory is lent
 
-module _ (m o : List ℕ) (gs : List Source) (ctx : List ℕ) (t : ℕ) (s : List ℕ) where
+module _ (o ctx : List ℕ) (t : ℕ) (s : List ℕ) where
   -- a call that is refused 7 takes no time; every other takes its own
-  pub call-after : (n : ℕ) → (after n (callOf m o gs ctx t s) ≡ n) ⊎ (after n (callOf m o gs ctx t s) ≡ t)
-  unfolding callOf
-  call-after n = go (lent-after m o (frameCall gs ctx t s) n)
-    where
-      go : (after n (lentCall m o (frameCall gs ctx t s)) ≡ n) ⊎ (after n (lentCall m o (frameCall gs ctx t s)) ≡ after n (frameCall gs ctx t s)) → (after n (callOf m o gs ctx t s) ≡ n) ⊎ (after n (callOf m o gs ctx t s) ≡ t)
-      go (inl e) = inl e
-      go (inr e) = inr (e ∙ frame-after n gs ctx t s)
+  pub call-after : (n : ℕ) → (after n (roomCall o (frameCall ctx t s)) ≡ n) ⊎ (after n (roomCall o (frameCall ctx t s)) ≡ t)
+  call-after n = rw (at-after (frameCall ctx t s) n t (frame-at ctx t s)) at (room-after o (frameCall ctx t s) n)
 
-  pub call-part : (u : ℕ) (p : Part) → callOf m o gs ctx t s ≡ part u p → Comes gs t s u p
-  unfolding callOf
-  call-part u p e = frame-part gs ctx t s u p (lent-part m o (frameCall gs ctx t s) u p e .0)
-
-  -- a call that brings a part has room for every datagram
-  pub call-room : (u : ℕ) (p : Part) → callOf m o gs ctx t s ≡ part u p → 2047 ≤ length o
-  unfolding callOf
-  call-room u p e = lent-part m o (frameCall gs ctx t s) u p e .1
-
-  -- only the length of the memory matters
-  pub call-memory : (m′ : List ℕ) → length m′ ≡ length m → callOf m′ o gs ctx t s ≡ callOf m o gs ctx t s
-  unfolding callOf
-  call-memory m′ e = lent-length m o (frameCall gs ctx t s) m′ e
+  pub call-part : (u : ℕ) (p : Part) → roomCall o (frameCall ctx t s) ≡ part u p → Comes t s u p
+  call-part u p e = frame-part ctx t s u p (room-part o (frameCall ctx t s) u p e .0)
 
 -- ---- how long a datagram is that is handed out
 tested-sized : (m : UdpSum) (d : List ℕ) → Sized (Parts.out d) → Sized (tested m d)
@@ -150,14 +112,18 @@ brings-sized t a (is (datagram d m)) h = tested-sized m d (h .0, omega (arith, h
 brings-sized t a (is (Incoming.part size tag v bs el)) h = tt
 brings-sized t a (refused r) h = tt
 
-frame-sized : (gs : List Source) (ctx : List ℕ) (t : ℕ) (s : List ℕ) → SizedCall (frameCall gs ctx t s)
+content-sized : (ctx : List ℕ) (a : Arrival) (s : List ℕ) → SizedBrought (content ctx a s)
+unfolding content
+content-sized ctx a s = by-test (addressed (nodeOf (a .dst))) (λ e. rw e (payload-sized ctx a s)) (λ e. rw e tt)
+
+frame-sized : (ctx : List ℕ) (t : ℕ) (s : List ℕ) → SizedCall (frameCall ctx t s)
 unfolding frameCall
-frame-sized gs ctx t s = go (admitted gs s)
+frame-sized ctx t s = go (arrival s)
   where
     go : (r : Answer Arrival) → SizedCall (carries t ctx s r)
-    go (is a) = brings-sized t a (payload ctx a s) (payload-sized ctx a s)
+    go (is a) = brings-sized t a (content ctx a s) (content-sized ctx a s)
     go (refused r) = tt
 
-pub call-sized : (tb : Table) (m o : List ℕ) (gs : List Source) (ctx : List ℕ) (t : ℕ) (s : List ℕ) → length (tb .slots) ≡ 8 → Sized (step (record { table = tb; mem = m }) (callOf m o gs ctx t s) .reply)
+pub call-sized : (tb : Table) (m o ctx : List ℕ) (t : ℕ) (s : List ℕ) → length (tb .slots) ≡ 8 → Sized (step (record { table = tb; mem = m }) (callOf m o ctx t s) .reply)
 unfolding callOf
-call-sized tb m o gs ctx t s eight = lent-sized tb m o (frameCall gs ctx t s) eight (frame-sized gs ctx t s)
+call-sized tb m o ctx t s eight = lent-sized tb m o (frameCall ctx t s) eight (frame-sized ctx t s)

@@ -2,7 +2,7 @@
 use Prim.Native.Nat.{ℕ, _-_, _≤_}
 use mathlib.Core.List.{List}
 use mathlib.Core.Bool.{Bool, true, false}
-use mathlib.Core.Path.{_≡_, refl, sym, ap, ap₂, _∙_}
+use mathlib.Core.Path.{_≡_, refl, sym, ap, _∙_}
 use lib.ListN.{length, take, drop, length-drop}
 use lib.Seq.{take-all}
 use borrow.Author.Tests.{le-leb}
@@ -11,70 +11,67 @@ use Rattle.octets.specs.Read.{Answer, is, refused}
 use Rattle.octets.specs.Refusal.{numberOf}
 use Rattle.octets.specs.Write.{put}
 use Rattle.octets.specs.declared.refusal.Refusal.{Refusal}
-use Rattle.octets.specs.declared.refusal.Refusal.the-variants.{NotGateway, NoAddress, BadChecksum}
+use Rattle.octets.specs.declared.refusal.Refusal.the-variants.{BadChecksum}
 use Rattle.expand.specs.Sum.{noSum, holds, holdsIn}
 use Rattle.expand.specs.declared.checksum.UdpSum.{UdpSum}
-use Rattle.incoming.specs.Incoming.{ofArrival, arrival, Brought, payloadIn, Brings}
+use Rattle.incoming.specs.Incoming.{ofArrival, arrival, Brought, datagram, part, payloadIn, Brings}
 use Rattle.incoming.specs.declared.arrival.Arrival.{Arrival}
 use Rattle.incoming.specs.declared.arrival.ArrivalAnswer.{ArrivalAnswer}
 use Rattle.incoming.specs.declared.payload.Payload.{Payload}
-use Rattle.incoming.proofs.Steps.{on-arrival, no-arrival, in-room}
+use Rattle.incoming.proofs.Steps.{in-room}
 use Rattle.sixlowpan.specs.declared.frag.Units.{Units}
-use Rattle.reassembly.specs.Slots.{nodeOf, addressed, isGate}
+use Rattle.reassembly.specs.Slots.{owner, gatesOf, isGate}
 use Rattle.reassembly.specs.Parts as Parts
 use Rattle.reassembly.specs.Parts.{partOf}
-use Rattle.reassembly.specs.Table as Table
-use Rattle.reassembly.specs.Table.{other}
+use Rattle.reassembly.specs.Table.{State, other, fromGate, takePart, step}
 use Rattle.reassembly.specs.declared.part.Outcome.{Outcome}
 use Rattle.reassembly.specs.declared.slot.Source.{Source}
 use Rattle.reassembly.specs.declared.slot.Key.{Key}
-use Rattle.receiver.specs.Receive.{senderOf, keyOf, welcome, admitted, tested, brings, carries, frameCall}
-use Rattle.receiver.specs.Steps.{HandsOver}
+use Rattle.receiver.specs.Receive.{senderOf, keyOf, content, tested, brings, frameCall}
+use Rattle.receiver.specs.Steps.{TurnedAway, unread, stranger, nowhere, Admits, GateSays, GateBrings, HandsOver}
 
 -- ---- who sends it to whom
-module _ (gs : List Source) (s : List ℕ) (y : ArrivalAnswer) (p : ofArrival y ≡ arrival s) where
-  module _ (a : Arrival) (q : y ≡ ArrivalAnswer.Is a) where
-    pub not-known : isGate (senderOf a) gs ≡ false → refused (numberOf NotGateway) ≡ admitted gs s
-    unfolding admitted welcome
-    not-known e = on-arrival (arrival s) (λ x. welcome gs x) p q (rw e refl)
+pub arrives : (s : List ℕ) (y z : ArrivalAnswer) → ofArrival y ≡ arrival s → y ≡ z → arrival s ≡ ofArrival z
+arrives s y z p q = sym p ∙ ap ofArrival q
 
-    module _ (known : isGate (senderOf a) gs ≡ true) where
-      pub not-addressed : addressed (nodeOf (a .dst)) ≡ false → refused (numberOf NoAddress) ≡ admitted gs s
-      unfolding admitted welcome
-      not-addressed e = on-arrival (arrival s) (λ x. welcome gs x) p q (rw (known, e) refl)
-
-      pub let-in : addressed (nodeOf (a .dst)) ≡ true → is a ≡ admitted gs s
-      unfolding admitted welcome
-      let-in e = on-arrival (arrival s) (λ x. welcome gs x) p q (rw (known, e) refl)
-
-  pub no-sender : (e : Refusal) → y ≡ ArrivalAnswer.Refused e → refused (numberOf e) ≡ admitted gs s
-  unfolding admitted
-  no-sender e q = no-arrival (arrival s) (λ x. welcome gs x) p q
+-- one that is not let in is to the table the refusal alone: a stranger's, 9, whatever it brings
+pub turned-away : {n : ℕ} (σ : State) (ctx : List ℕ) (t : ℕ) (s : List ℕ) → TurnedAway (gatesOf (σ .table)) s n → step σ (frameCall ctx t s) ≡ step σ (other t (Parts.refused n))
+unfolding frameCall content keyOf fromGate takePart step
+turned-away σ ctx t s (unread n q) = rw q refl
+turned-away σ ctx t s (stranger a q k) = rw q (go (content ctx a s))
+  where
+    go : (b : Answer Brought) → step σ (brings t a b) ≡ step σ (other t (Parts.refused 9))
+    go (is (datagram d m)) = rw k refl
+    go (is (part size tag u bs e)) = rw k refl
+    go (refused n) = rw k refl
+turned-away σ ctx t s (nowhere a q k d) = rw (q, d, k) refl
 
 -- ---- what it brings
-module _ (gs : List Source) (ctx s : List ℕ) (y : ArrivalAnswer) (p : ofArrival y ≡ admitted gs s) where
-  pub frame-none : (e : Refusal) → y ≡ ArrivalAnswer.Refused e → (t : ℕ) → frameCall gs ctx t s ≡ other t (Parts.refused (numberOf e))
-  unfolding frameCall
-  frame-none e q t = ap (λ z. carries t ctx s z) (sym p ∙ ap ofArrival q)
+module _ (gs : List Source) (ctx s : List ℕ) (y : ArrivalAnswer) (p : Admits gs s (ofArrival y)) (a : Arrival) (q : y ≡ ArrivalAnswer.Is a) (r : Payload) (room l : List ℕ) (big : 455 ≤ length room) (b : Brings r room l s (payloadIn room ctx a s)) (t : ℕ) where
+  came : Admits gs s (is a)
+  came = rw q at p
 
-  module _ (a : Arrival) (q : y ≡ ArrivalAnswer.Is a) (r : Payload) (room l : List ℕ) (big : 455 ≤ length room) (b : Brings r room l s (payloadIn room ctx a s)) (t : ℕ) where
-    frame-brings : {x : Answer Brought} → x ≡ payloadIn room ctx a s → frameCall gs ctx t s ≡ brings t a x
-    unfolding frameCall
-    frame-brings e = ap (λ z. carries t ctx s z) (sym p ∙ ap ofArrival q) ∙ ap (λ z. brings t a z) (sym (e ∙ in-room room ctx a s big))
+  frame-brings : {x : Answer Brought} → x ≡ payloadIn room ctx a s → frameCall ctx t s ≡ brings t a x
+  unfolding frameCall content
+  frame-brings e = rw (came .0, came .2) (ap (λ z. brings t a z) (sym (e ∙ in-room room ctx a s big)))
 
-    pub frame-whole : (n : ℕ) (el : UdpSum) → r ≡ Payload.Whole n el → frameCall gs ctx t s ≡ other t (tested el (take n l))
-    frame-whole n el e = frame-brings (rw e at (b .answer))
+  pub frame-whole : (n : ℕ) (el : UdpSum) → r ≡ Payload.Whole n el → GateSays gs ctx t s (tested el (take n l))
+  frame-whole n el e = (senderOf a, came .1, frame-brings (rw e at (b .answer)))
 
-    pub frame-refused : (e : Refusal) → r ≡ Payload.Refused e → frameCall gs ctx t s ≡ other t (Parts.refused (numberOf e))
-    frame-refused x e = frame-brings (rw e at (b .answer))
+  pub frame-refused : (e : Refusal) → r ≡ Payload.Refused e → GateSays gs ctx t s (Parts.refused (numberOf e))
+  frame-refused x e = (senderOf a, came .1, frame-brings (rw e at (b .answer)))
 
-    -- a part under the key k
-    module _ (size tag : ℕ) (k : Key) (key : k ≡ keyOf a size tag) where
-      pub frame-first : (n : ℕ) (el : UdpSum) → r ≡ Payload.First size tag n el → frameCall gs ctx t s ≡ Table.part t (partOf k 0 el (take n l))
-      frame-first n el e = frame-brings (rw e at (b .answer)) ∙ ap (λ z. Table.part t (partOf z 0 el (take n l))) (sym key)
+  -- a part under the key k
+  module _ (size tag : ℕ) (k : Key) (key : k ≡ keyOf a size tag) where
+    known : isGate (owner k) gs ≡ true
+    unfolding keyOf
+    known = rw key (came .1)
 
-      pub frame-later : (u : Units) (from : ℕ) → r ≡ Payload.Later size tag u from → (bs : List ℕ) → bs ≡ drop from s → frameCall gs ctx t s ≡ Table.part t (partOf k (u .0) noSum bs)
-      frame-later u from e bs w = frame-brings (rw e at (b .answer)) ∙ ap₂ (λ z x. Table.part t (partOf z (u .0) noSum x)) (sym key) (sym w)
+    pub frame-first : (n : ℕ) (el : UdpSum) → r ≡ Payload.First size tag n el → GateBrings gs ctx t s (partOf k 0 el (take n l))
+    frame-first n el e = (known, rw key (frame-brings (rw e at (b .answer))))
+
+    pub frame-later : (u : Units) (from : ℕ) → r ≡ Payload.Later size tag u from → (bs : List ℕ) → bs ≡ drop from s → GateBrings gs ctx t s (partOf k (u .0) noSum bs)
+    frame-later u from e bs w = (known, rw (key, w) (frame-brings (rw e at (b .answer))))
 
 -- the part of s from a place on, as a slice has it
 pub rest-is : (from : ℕ) (s : List ℕ) → take (length s - from) (drop from s) ≡ drop from s

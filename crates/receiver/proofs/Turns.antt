@@ -14,6 +14,9 @@ use Rattle.octets.specs.Read.{Answer, is, choose}
 use Rattle.octets.specs.Read as Read
 use Rattle.octets.proofs.Spans.{not-refused}
 use Rattle.reassembly.specs.Lists.{count, those}
+use Rattle.octets.specs.declared.refusal.Refusal.{Refusal}
+use Rattle.incoming.specs.Incoming.{ofArrival}
+use Rattle.incoming.specs.declared.arrival.ArrivalAnswer.{ArrivalAnswer}
 use Rattle.reassembly.specs.Slots.{owner, present, isKey, freeSlot, expire, gatesOf, isGate}
 use Rattle.reassembly.specs.Parts.{Part, Reply, refused, told, ofOutcome, outputAfter, fits, Put}
 use Rattle.reassembly.specs.Table.{State, Result, other, part, splice, withSlots, stays, takeAt, step, lentCall, Lands, Gives, Aged}
@@ -25,12 +28,13 @@ use Rattle.reassembly.specs.declared.slot.Source.{Source}
 use Rattle.reassembly.specs.declared.table.Table.{Table}
 use Rattle.reassembly.proofs.Tests.{by-test, by-order, not-true-false}
 use Rattle.reassembly.proofs.Lists.{firstAt-holds, firstAt-found, firstAt-most, count-at}
-use Rattle.reassembly.proofs.Answers.{enough-output, aged-is, aged-whole, aged-young, gates-of, gates-same, Leaves, leaves-7, leaves-8, leaves-other, leaves-10, leaves-offer, leaves-open, leaves-12}
+use Rattle.reassembly.proofs.Answers.{enough-output, aged-is, aged-whole, aged-young, gates-of, gates-same, Leaves, leaves-7, leaves-8, leaves-other, from-gate, lent-same, leaves-10, leaves-offer, leaves-open, leaves-12}
 use Rattle.reassembly.proofs.AtSlot.{take-own, take-other, take-bad, take-none}
 use Rattle.reassembly.proofs.Unwritten.{splice-back}
-use Rattle.receiver.specs.Receive.{frameCall, callOf}
-use Rattle.receiver.specs.Steps.{judged, Timed, HandsOver, called, ReceivesIn, openSlot, newSlot, slotFor, TakesIn}
-use Rattle.receiver.proofs.Names.{call-of, frame-part, frame-at}
+use Rattle.receiver.specs.Receive.{frameCall}
+use Rattle.receiver.specs.Steps.{judged, TurnedAway, Admits, GateSays, GateBrings, Timed, HandsOver, called, ReceivesIn, openSlot, newSlot, slotFor, TakesIn}
+use Rattle.receiver.proofs.Names.{call-of, frame-at}
+use Rattle.receiver.proofs.Steps.{turned-away}
 
 abbrev state : Table → List ℕ → State
 state tb m = record { table = tb; mem = m }
@@ -50,11 +54,11 @@ module _ (tb : Table) (t : ℕ) (s ctx m o : List ℕ) where
   not-taken n e = by-test (ltb (length m) 16384 || ltb (length o) 2047)
       (λ a.
       let q : n ≡ 7 = same-number n 7 (rw a at e) in
-      rw (q, ← call-of m o (gatesOf tb) ctx t s) (leaves-7 tb m o t (frameCall (gatesOf tb) ctx t s) a))
+      rw (q, ← call-of m o ctx t s) (leaves-7 tb m o t (frameCall ctx t s) a))
       (λ a. by-test (ltb t (tb .last))
       (λ b.
       let q : n ≡ 8 = same-number n 8 (rw (a, b) at e) in
-      rw (q, ← call-of m o (gatesOf tb) ctx t s) (leaves-8 tb m o t (frameCall (gatesOf tb) ctx t s) a (frame-at (gatesOf tb) ctx t s) (ltb-true t (tb .last) b)))
+      rw (q, ← call-of m o ctx t s) (leaves-8 tb m o t (frameCall ctx t s) a (frame-at ctx t s) (ltb-true t (tb .last) b)))
       (λ b. not-refused tt n (rw (a, b) at e)))
 
 module _ (tb : Table) (t : ℕ) (m o : List ℕ) (e : is tt ≡ judged (tb .last) t (length m) (length o)) where
@@ -94,17 +98,17 @@ module _ (tb x : Table) (t : ℕ) (s ctx m o : List ℕ) (T : Timed tb x t m o) 
   timed-table : x ≡ withTime x t
   timed-table = rw (← T .last)
 
-  call-is : lentCall m o (frameCall (gatesOf x) ctx t s) ≡ callOf m o (gatesOf tb) ctx t s
-  call-is = ap (λ g. lentCall m o (frameCall g ctx t s)) (gates-of x ∙ gates-same tb x t (T .aged)) ∙ call-of m o (gatesOf tb) ctx t s
+  -- and its gateways are those of tb
+  gates-are : gatesOf x ≡ gatesOf tb
+  gates-are = gates-of x ∙ gates-same tb x t (T .aged)
 
-  -- it brings the part p
-  module _ (p : Part) (F : frameCall (gatesOf x) ctx t s ≡ part t p) where
+  -- it is a gateway's, and brings the part p
+  module _ (p : Part) (F : GateBrings (gatesOf x) ctx t s p) where
     as-part : (a : Reply (List ℕ)) (x′ : Table) (m′ : List ℕ) → Leaves (step (state tb m) (lentCall m o (part t p))) a x′ m′ → Leaves (called tb t s ctx m o) a x′ m′
-    as-part a x′ m′ L = rw (← call-is, F) L
+    as-part a x′ m′ L = rw (← call-of m o ctx t s, F .1) L
 
-    -- which is a gateway's
     known : isGate (owner (p .key)) (those present (x .gateways)) ≡ true
-    known = rw (gates-of x) at (frame-part (gatesOf x) ctx t s t p F .gate)
+    known = rw (gates-of x) at (F .0)
 
     module _ (i : ℕ) (e : i ≡ slotFor x p) where
       abbrev was : Slot
@@ -158,9 +162,18 @@ module _ (tb x : Table) (t : ℕ) (s ctx m o : List ℕ) (T : Timed tb x t m o) 
           let L : Ends (takeAt was i t p m o) = by-test (fits p) (λ good. by-order (suc i) 8 (λ h. ends-slot good h) (λ h. ends-none good (le-of-suc-le-suc h))) (λ bad. ends-bad bad) in
           rw (T .last) (as-part _ _ _ L)
 
-  -- it brings no part
-  pub leaves-answer : (a : Reply (List ℕ)) → frameCall (gatesOf x) ctx t s ≡ other t a → Leaves (called tb t s ctx m o) a x m
-  leaves-answer a F = rw (← call-is, F) (leaves-other tb m o t (T .enough) (T .late) x (timed-table ∙ aged-is tb x t (T .aged)) a)
+  -- it is to the table what is answered so whoever sends it
+  leaves-as : (a : Reply (List ℕ)) → step (state tb m) (frameCall ctx t s) ≡ step (state tb m) (other t a) → Leaves (called tb t s ctx m o) a x m
+  leaves-as a q =
+      rw (← call-of m o ctx t s, lent-same (state tb m) m o _ _ q) (leaves-other tb m o t (T .enough) (T .late) x (timed-table ∙ aged-is tb x t (T .aged)) a)
+
+  -- it is a gateway's, and brings no part
+  pub leaves-answer : (a : Reply (List ℕ)) → GateSays (gatesOf x) ctx t s a → Leaves (called tb t s ctx m o) a x m
+  leaves-answer a (g, k, F) = leaves-as a (rw F (from-gate (state tb m) t g a (rw gates-are at k)))
+
+  -- it is not let in
+  pub leaves-refused : (n : ℕ) → TurnedAway (gatesOf x) s n → Leaves (called tb t s ctx m o) (refused n) x m
+  leaves-refused n w = leaves-as (refused n) (turned-away (state tb m) ctx t s (rw gates-are at w))
 
 -- ---- what a call leaves, as an answer
 pub gives-of : (q : Result) (a : Reply (List ℕ)) (x : Table) (m o o′ : List ℕ) → Leaves q a x m → (r : Outcome) → ofOutcome r ≡ told a → o′ ≡ outputAfter a o → Gives (record { answer = r; table = x }) m o o′ q
@@ -180,5 +193,8 @@ pub takes : (x : Table) (t : ℕ) (p : Part) (i : ℕ) → i ≡ slotFor x p →
     → (y : Table) → y ≡ withSlot x i (r .slot) → TakesIn x t p (r .outcome) y m m′ o o′
 takes x t p i e m o z a r m′ o′ D y b s ctx F tb T = rw b (gives-slot _ _ x i m o (leaves-part tb x t s ctx m o T p F i e) r m′ o′ (rw a at D))
 
-pub answers : (x : Table) (t : ℕ) (s ctx m o : List ℕ) (a : Reply (List ℕ)) → frameCall (gatesOf x) ctx t s ≡ other t a → (r : Outcome) (o′ : List ℕ) → HandsOver r o o′ a → ReceivesIn x t s ctx r x m m o o′
+pub answers : (x : Table) (t : ℕ) (s ctx m o : List ℕ) (a : Reply (List ℕ)) → GateSays (gatesOf x) ctx t s a → (r : Outcome) (o′ : List ℕ) → HandsOver r o o′ a → ReceivesIn x t s ctx r x m m o o′
 answers x t s ctx m o a F r o′ A tb T = gives-of _ a x m o o′ (leaves-answer tb x t s ctx m o T a F) r (A .answer) (A .output)
+
+pub refuses : (x : Table) (t : ℕ) (s ctx m o : List ℕ) (y : ArrivalAnswer) → Admits (gatesOf x) s (ofArrival y) → (e : Refusal) → y ≡ ArrivalAnswer.Refused e → ReceivesIn x t s ctx (Outcome.Refused e) x m m o o
+refuses x t s ctx m o y p e q tb T = gives-of _ _ x m o o (leaves-refused tb x t s ctx m o T _ (rw q at p)) (Outcome.Refused e) refl refl

@@ -13,8 +13,8 @@ ghost use Rattle.reassembly.specs.Slots.{gatesOf};
 ghost use Rattle.reassembly.specs.Parts.{withBytes};
 ghost use Rattle.reassembly.specs.Table.{step, Gives};
 ghost use Rattle.words.specs.Words.{tableIn};
-ghost use Rattle.receiver.specs.Receive.{senderOf, keyOf, admitted, tested, callOf};
-ghost use Rattle.receiver.specs.Steps.{ofJudged, judged, HandsOver, ReceivesIn, TakesIn};
+ghost use Rattle.receiver.specs.Receive.{senderOf, keyOf, tested, callOf};
+ghost use Rattle.receiver.specs.Steps.{ofJudged, judged, Admits, HandsOver, ReceivesIn, TakesIn};
 use expand::checksum::UdpSum;
 use expand::checksum::is_right;
 use expand::copy::put_slice;
@@ -65,7 +65,7 @@ fn sender_of(a: Arrival) -> Source
 
 // Who sends a frame to whom, where the sender is a gateway (9) and the destination is present (6).
 fn admit(t: &[u64; WORDS], frame: &[u8]) -> ArrivalAnswer
-    ensures { λ r. ⌜ ofArrival r ≡ admitted (gatesOf (tableIn (now (t .entry)))) (now (frame .entry)) ⌝ }
+    ensures { λ r. ⌜ Admits (gatesOf (tableIn (now (t .entry)))) (now (frame .entry)) (ofArrival r) ⌝ }
 {
     match Arrival::read(frame) {
         ArrivalAnswer::Is(a) => {
@@ -198,8 +198,7 @@ pub fn receive(
 ) -> Outcome
     ensures { λ r. ⌜ Gives (record { answer = r; table = tableIn (now (t .exit)) }) (now (mem .exit)) (now (out .entry))
         (now (out .exit)) (step (record { table = tableIn (now (t .entry)); mem = now (mem .entry) })
-        (callOf (now (mem .entry)) (now (out .entry)) (gatesOf (tableIn (now (t .entry)))) (now (contexts .entry)) time
-        (now (frame .entry)))) ⌝ }
+        (callOf (now (mem .entry)) (now (out .entry)) (now (contexts .entry)) time (now (frame .entry)))) ⌝ }
 {
     match judge(words::last(t), time, mem.len(), out.len()) {
         Judged::Taken => {

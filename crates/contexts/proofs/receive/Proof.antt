@@ -42,7 +42,6 @@ use denote.Triple.Clauses.{ensured, lasts, Lasts}
 use denote.Exit.{yes}
 use Rattle.iphc.specs.declared.context.AddressContext.{AddressContext}
 use Rattle.iphc.proofs.context.AddressContext as X
-use Rattle.reassembly.specs.Slots.{gatesOf}
 use Rattle.reassembly.specs.Table.{step, Gives}
 use Rattle.reassembly.specs.declared.part.Outcome.{Outcome}
 use Rattle.reassembly.proofs.part.Outcome as R
@@ -159,7 +158,7 @@ module _ {M : Type 1} (𝓤 : URA M) (H : Heap 𝓤) (A : Atoms 𝓤) (W : Given
 
   -- what the contract says of the result r, the last numbers and the last lists, where the contexts are the flat bytes ctx
   abbrev Said : List ℕ → Outcome → List ℕ → List ℕ → List ℕ → Type 0
-  Said ctx r ts ms os = Gives (record { answer = r; table = tableIn ts }) ms (ou .now) os (step (record { table = tableIn (t .now); mem = me .now }) (callOf (me .now) (ou .now) (gatesOf (tableIn (t .now))) ctx n (fr .now)))
+  Said ctx r ts ms os = Gives (record { answer = r; table = tableIn ts }) ms (ou .now) os (step (record { table = tableIn (t .now); mem = me .now }) (callOf (me .now) (ou .now) ctx n (fr .now)))
 
   abbrev Left : Outcome → Val → List ℕ → List ℕ → List ℕ → List (Item 𝓤)
   Left r v ts ms os = ‵ (R.the-row .own r (v ∷ [])) ∷ Others ∷ ‵ (finally u8 (ou .name) os) ∷ ‵ (finally u8 (me .name) ms) ∷ ‵ (Last ts) ∷ One ∷ ‵ Cx ∷ ‵ F ∷ []

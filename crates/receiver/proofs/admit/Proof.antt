@@ -1,6 +1,7 @@
 use mathlib.Core.Path.{sym, _∙_}
 use borrow.Author.Tests.{not-true, not-false}
-use Rattle.receiver.proofs.Steps.{not-known, not-addressed, let-in, no-sender}
+use Rattle.receiver.specs.Steps.{unread, stranger, nowhere}
+use Rattle.receiver.proofs.Steps.{arrives}
 use borrow.Author.Needs.{needs}
 use Rattle.receiver.proofs.admit.Statement.{statement}
 use Rattle.receiver.proofs.admit.Tie as tie
@@ -18,7 +19,7 @@ is-gateway-requires : tie.Need-is-gateway-requires
 is-gateway-requires c κs = search needs
 
 returns : tie.Need-returns
-returns c = not-known _ _ _ (c .before .before .before .before .before .before .read .ensures) _ (c .before .before .before .before .a .given .1) (rw (c .before .before .sender-of .ensures) at (sym (c .before .is-gateway .ensures) ∙ not-true _ (c .if1 .taken)))
+returns c = stranger _ (arrives _ _ _ (c .before .before .before .before .before .before .read .ensures) (c .before .before .before .before .a .given .1)) (rw (c .before .before .sender-of .ensures) at (sym (c .before .is-gateway .ensures) ∙ not-true _ (c .if1 .taken)))
 
 of-requires : tie.Need-of-requires
 of-requires c κs = search needs
@@ -27,16 +28,16 @@ is-present-requires : tie.Need-is-present-requires
 is-present-requires c κs = search needs
 
 returns-2 : tie.Need-returns-2
-returns-2 c = let-in _ _ _ (c .before .before .before .before .before .before .before .before .before .read .ensures) _ (c .before .before .before .before .before .before .before .a .given .1) (rw (c .before .before .before .before .before .sender-of .ensures) at (sym (c .before .before .before .before .is-gateway .ensures) ∙ not-false _ (c .before .before .before .if1 .left))) (rw (c .before .before .of .ensures) at (sym (c .before .is-present .ensures) ∙ c .if2 .taken))
+returns-2 c = (arrives _ _ _ (c .before .before .before .before .before .before .before .before .before .read .ensures) (c .before .before .before .before .before .before .before .a .given .1), (rw (c .before .before .before .before .before .sender-of .ensures) at (sym (c .before .before .before .before .is-gateway .ensures) ∙ not-false _ (c .before .before .before .if1 .left))), rw (c .before .before .of .ensures) at (sym (c .before .is-present .ensures) ∙ c .if2 .taken))
 
 enum-known-e : tie.Need-enum-known-e
 enum-known-e c = search needs
 
 returns-3 : tie.Need-returns-3
-returns-3 c = not-addressed _ _ _ (c .before .before .before .before .before .before .before .before .before .read .ensures) _ (c .before .before .before .before .before .before .before .a .given .1) (rw (c .before .before .before .before .before .sender-of .ensures) at (sym (c .before .before .before .before .is-gateway .ensures) ∙ not-false _ (c .before .before .before .if1 .left))) (rw (c .before .before .of .ensures) at (sym (c .before .is-present .ensures) ∙ c .if2 .left))
+returns-3 c = nowhere _ (arrives _ _ _ (c .before .before .before .before .before .before .before .before .before .read .ensures) (c .before .before .before .before .before .before .before .a .given .1)) (rw (c .before .before .before .before .before .sender-of .ensures) at (sym (c .before .before .before .before .is-gateway .ensures) ∙ not-false _ (c .before .before .before .if1 .left))) (rw (c .before .before .of .ensures) at (sym (c .before .is-present .ensures) ∙ c .if2 .left))
 
 returns-4 : tie.Need-returns-4
-returns-4 c = no-sender _ _ _ (c .before .before .before .read .ensures) _ (c .before .e .given .1)
+returns-4 c = unread _ (arrives _ _ _ (c .before .before .before .read .ensures) (c .before .e .given .1))
 
 pub admit-spec : {M : Type 1} → statement M
 admit-spec =

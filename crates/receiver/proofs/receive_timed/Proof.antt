@@ -5,8 +5,8 @@ use native.Mathlib.Omega.{arith}
 use native.Mathlib.Nat.{sub-zero}
 use mathlib.Core.Path.{refl}
 use lib.ListN.{length, replicate, length-replicate}
-use Rattle.receiver.proofs.Steps.{frame-none, frame-whole, frame-refused, frame-first, frame-later, rest-is, whole-within, first-within, later-within}
-use Rattle.receiver.proofs.Turns.{answers}
+use Rattle.receiver.proofs.Steps.{frame-whole, frame-refused, frame-first, frame-later, rest-is, whole-within, first-within, later-within}
+use Rattle.receiver.proofs.Turns.{answers, refuses}
 use borrow.Author.Needs.{needs}
 use Rattle.receiver.proofs.receive_timed.Statement.{statement}
 use Rattle.receiver.proofs.receive_timed.Tie as tie
@@ -111,7 +111,7 @@ returns-4 : tie.Need-returns-4
 returns-4 c = answers _ _ _ _ _ _ _ (frame-refused _ _ _ _ (c .before .before .before .before .before .before .before .before .before .admit .ensures) _ (c .before .before .before .before .before .before .before .a .given .1) _ _ _ big (c .before .before .before .before .read .ensures) _ _ (c .before .e .given .1)) _ _ (record { answer = refl; output = refl })
 
 returns-5 : tie.Need-returns-5
-returns-5 c = answers _ _ _ _ _ _ _ (frame-none _ _ _ _ (c .before .before .before .admit .ensures) _ (c .before .e2 .given .1) _) _ _ (record { answer = refl; output = refl })
+returns-5 c = refuses _ _ _ _ _ _ _ (c .before .before .before .admit .ensures) _ (c .before .e2 .given .1)
 
 pub receive-timed-spec : {M : Type 1} → statement M
 receive-timed-spec =
