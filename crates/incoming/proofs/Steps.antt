@@ -3,13 +3,11 @@
 use Prim.Native.Nat.{ℕ, _≤_, _<_}
 use native.Mathlib.Omega.{arith}
 use mathlib.Core.List.{List, _++_}
-use mathlib.Core.Bool.{Bool, true, false}
 use mathlib.Core.Path.{_≡_, refl, sym, ap, ap₂, _∙_}
 use lib.ListN.{length, take, drop, replicate, length-append}
 use lib.Seq.{take-at}
-use lib.Dec.{leb, eqb}
 use borrow.Author.Tests.{le-leb, lt-leb, eq-eqb, ne-eqb}
-use Rattle.octets.specs.Read.{Answer, is, refused, Placed, Read, andThen, choose}
+use Rattle.octets.specs.Read.{Answer, is, refused, Placed, Read, andThen}
 use Rattle.octets.specs.Refusal.{numberOf}
 use Rattle.octets.specs.declared.refusal.Refusal.{Refusal}
 use Rattle.octets.specs.declared.refusal.Refusal.the-variants.{BadPart, NoRoom}
@@ -38,7 +36,7 @@ use Rattle.expand.specs.Sum.{noSum}
 use Rattle.expand.specs.declared.checksum.UdpSum.{UdpSum}
 use Rattle.expand.specs.declared.datagram.Expanded.{Expanded}
 use Rattle.expand.proofs.Datagrams.{expansion-made, at-most-455}
-use Rattle.incoming.specs.Incoming.{ofArrival, framed, arrival, Brought, datagram, part, scratchAfter, linkAddressesOf, whole, piece, fragment, payload, payloadIn, expanded, expandedTo, Begins, Brings}
+use Rattle.incoming.specs.Incoming.{ofArrival, framed, arrival, datagram, part, ofPayload, scratchAfter, linkAddressesOf, whole, piece, fragment, payload, payloadIn, expanded, expandedTo, Begins, Within, Brings}
 use Rattle.incoming.specs.declared.arrival.Arrival.{Arrival}
 use Rattle.incoming.specs.declared.payload.Payload.{Payload}
 use Rattle.incoming.specs.declared.payload.Head.{Head}
@@ -113,6 +111,14 @@ scratch-is (refused n) h size tag room r = refl
 scratch-is (is e) h WordField.None tag room r = rw (le-leb (length (e .bytes)) (length room) (omega (arith, h e refl))) refl
 scratch-is (is e) h (WordField.Some size) tag room r = rw (le-leb (length (e .bytes)) (length room) (omega (arith, h e refl))) refl
 
+answer-is : (size : WordField) (tag n : ℕ) (m : UdpSum) (l s : List ℕ) → ofPayload (expandedTo size tag n m) l s ≡ is (expanded size tag (record { bytes = take n l; sum = m }))
+answer-is WordField.None tag n m l s = refl
+answer-is (WordField.Some size) tag n m l s = refl
+
+within-is : (size : WordField) (tag n : ℕ) (m : UdpSum) (l s : List ℕ) → n ≤ length l → Within (expandedTo size tag n m) l s
+within-is WordField.None tag n m l s h = h
+within-is (WordField.Some size) tag n m l s h = h
+
 -- ---- what a payload begins with: a part, by its fragment header h, which ends at c
 module _ (h : Repr) (c : Cursor) where
   pub first-head : (size tag : ℕ) → h ≡ FirstFragment size tag → (ctx : List ℕ) (a : Arrival) (s : List ℕ) → c .at ≤ length s → Begins (Head.Compressed c (WordField.Some size) tag) ctx a s (piece ctx a h (c .at) s)
@@ -185,11 +191,12 @@ module _ (ctx : List ℕ) (a : Arrival) (s room : List ℕ) where
         pub on-filled : (n : ℕ) (el : UdpSum) → y ≡ Expanded.Datagram n el → (r : Payload) → r ≡ expandedTo size tag n el → Brings r room l s (payloadIn room ctx a s)
         on-filled n el z r t =
             let g = got-expanded fully (small ctx _ _ size s (c .at)) room l n el i (sym (ap ofExpanded z) ∙ p) w in
-            rw (t, sym fully-is) (to size g)
-          where
-            to : (x : WordField) → (e : Expansion) × (fully ≡ is e) × (take n l ≡ e .bytes) × (el ≡ e .sum) × (n ≤ length l) → Brings (expandedTo x tag n el) room l s (andThen fully (λ e. is (expanded x tag e)))
-            to WordField.None g = record { answer = ap₂ (λ t u. is (datagram t u)) (g .2) (g .3) ∙ sym (ap (λ t. andThen t (λ e. is (datagram (e .bytes) (e .sum)))) (g .1)); within = g .4; scratch = w ∙ scratch-is fully (small ctx _ _ size s (c .at)) WordField.None tag room i }
-            to (WordField.Some x) g = record { answer = ap₂ (λ t u. is (part x tag 0 t u)) (g .2) (g .3) ∙ sym (ap (λ t. andThen t (λ e. is (part x tag 0 (e .bytes) (e .sum)))) (g .1)); within = g .4; scratch = w ∙ scratch-is fully (small ctx _ _ size s (c .at)) (WordField.Some x) tag room i }
+            rw (t, sym fully-is)
+            (record {
+              answer = answer-is size tag n el l s ∙ ap₂ (λ d m. is (expanded size tag (record { bytes = d; sum = m }))) (g .2) (g .3) ∙ sym (ap (λ x. andThen x (λ e. is (expanded size tag e))) (g .1));
+              within = within-is size tag n el l s (g .4);
+              scratch = w ∙ scratch-is fully (small ctx _ _ size s (c .at)) size tag room i;
+            })
 
         pub no-filled : (e : Refusal) → y ≡ Expanded.Refused e → Brings (Payload.Refused e) room l s (payloadIn room ctx a s)
         no-filled e z =
