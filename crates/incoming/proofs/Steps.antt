@@ -2,10 +2,12 @@
 -- this crate say of the specification's next step.
 use Prim.Native.Nat.{ℕ, _≤_, _<_}
 use native.Mathlib.Omega.{arith}
+use mathlib.Core.Bool.{false}
 use mathlib.Core.List.{List, _++_}
 use mathlib.Core.Path.{_≡_, refl, sym, ap, ap₂, _∙_}
 use lib.ListN.{length, take, drop, replicate, length-append}
 use lib.Seq.{take-at}
+use lib.Dec.{eqb}
 use borrow.Author.Tests.{le-leb, lt-leb, eq-eqb, ne-eqb}
 use Rattle.octets.specs.Read.{Answer, is, refused, Placed, Read, andThen}
 use Rattle.octets.specs.Refusal.{numberOf}
@@ -175,10 +177,11 @@ module _ (ctx : List ℕ) (a : Arrival) (s room : List ℕ) where
     pub no-head : (e : Refusal) → h ≡ Head.Refused e → (l : List ℕ) → l ≡ replicate (length room) 0 → Brings (Payload.Refused e) room l s (payloadIn room ctx a s)
     no-head e q l w = rw (sym (is-behind (Head.Refused e) q .0)) (record { answer = refl; within = tt; scratch = w })
 
-    pub on-later : (size tag : ℕ) (o : Units) (from : ℕ) → h ≡ Head.Later size tag o from → Brings (Payload.Later size tag o from) room room s (payloadIn room ctx a s)
+    pub on-later : (size tag : ℕ) (o : Units) (from : ℕ) → h ≡ Head.Later size tag o from → Brings (Payload.Part size tag o noSum from) room room s (payloadIn room ctx a s)
     on-later size tag o from q =
         let (e, w) = is-behind (Head.Later size tag o from) q in
-        rw (sym e) (record { answer = refl; within = w; scratch = rw (ne-eqb (o .0) 0 (λ z. omega (arith, z, w .1))) refl })
+        let z : eqb (o .0) 0 ≡ false = ne-eqb (o .0) 0 (λ z. omega (arith, z, w .1)) in
+        rw (sym e) (record { answer = rw z refl; within = rw z (w .0); scratch = rw z refl })
 
     module _ (c : Cursor) (size : WordField) (tag : ℕ) (q : h ≡ Head.Compressed c size tag) (ll : LinkAddresses) (k : ll ≡ linkAddressesOf a) where
       abbrev fully : Answer Expansion

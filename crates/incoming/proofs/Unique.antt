@@ -6,7 +6,6 @@ use mathlib.Core.Bool.{Bool, true, false}
 use mathlib.Core.Path.{_≡_, refl, sym, ap, _∙_}
 use lib.ListN.{length, take, drop, length-take, length-drop}
 use lib.Dec.{eqb}
-use borrow.Author.Tests.{ne-eqb}
 use Rattle.octets.specs.Read.{Answer, is, refused, choose}
 use Rattle.octets.proofs.Unique.{Injective, refusalOf, refusal-back, back, one}
 use Rattle.incoming.specs.Incoming.{ofArrival, Brought, datagram, part, scratchAfter, Within, Brings}
@@ -23,7 +22,7 @@ arrival-one = one ofArrival ArrivalAnswer.Is ArrivalAnswer.Refused inv
 -- the way back from what the frame s brings
 abbrev answerTo : List ℕ → Answer Brought → Payload
 answerTo s (is (datagram d m)) = Payload.Whole (length d) m
-answerTo s (is (part size tag u bs e)) = choose (eqb u 0) (Payload.First size tag (length bs) e) (Payload.Later size tag (record { 0 = u }) (length s - length bs))
+answerTo s (is (part size tag u bs e)) = Payload.Part size tag (record { 0 = u }) e (choose (eqb u 0) (length bs) (length s - length bs))
 answerTo s (refused n) = Payload.Refused (refusalOf n)
 
 taken : (n : ℕ) (l : List ℕ) → n ≤ length l → length (take n l) ≡ n
@@ -34,10 +33,11 @@ dropped n s h = omega (arith, length-drop n s)
 
 answer-is : (r : Payload) (room l s : List ℕ) (b : Answer Brought) → Brings r room l s b → answerTo s b ≡ r
 answer-is (Payload.Whole n m) room l s b B = rw (sym (B .answer)) (ap (λ k. Payload.Whole k m) (taken n l (B .within)))
-answer-is (Payload.First size tag n e) room l s b B = rw (sym (B .answer)) (ap (λ k. Payload.First size tag k e) (taken n l (B .within)))
-answer-is (Payload.Later size tag o from) room l s b B =
-    let z : eqb (o .0) 0 ≡ false = ne-eqb (o .0) 0 (λ h. omega (arith, h, B .within .1)) in
-    rw (sym (B .answer), z) (ap (λ k. Payload.Later size tag o k) (dropped from s (B .within .0)))
+answer-is (Payload.Part size tag o m at) room l s b B = rw (sym (B .answer)) (ap (Payload.Part size tag o m) (go (eqb (o .0) 0) (B .within)))
+  where
+    go : (t : Bool) → at ≤ choose t (length l) (length s) → choose t (length (choose t (take at l) (drop at s))) (length s - length (choose t (take at l) (drop at s))) ≡ at
+    go true h = taken at l h
+    go false h = dropped at s h
 answer-is (Payload.Refused e) room l s b B = rw (sym (B .answer)) (ap Payload.Refused (refusal-back e))
 
 pub payload-one : (room s : List ℕ) (b : Answer Brought) (y z : Payload) (l m : List ℕ) → Brings y room l s b → Brings z room m s b → (y ≡ z) × (l ≡ m)

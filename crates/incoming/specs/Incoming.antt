@@ -22,6 +22,7 @@ use Rattle.sixlowpan.specs.Dispatch.{dispatch}
 use Rattle.sixlowpan.specs.Frag.{frag}
 use Rattle.sixlowpan.specs.declared.dispatch.SixlowpanPacket.{SixlowpanPacket}
 use Rattle.sixlowpan.specs.declared.dispatch.SixlowpanPacket.the-variants.{FragmentHeader, IphcHeader}
+use Rattle.sixlowpan.specs.declared.frag.Units.{Units}
 use Rattle.sixlowpan.specs.declared.frag.Repr.{Repr}
 use Rattle.sixlowpan.specs.declared.frag.Repr.the-variants.{FirstFragment, Fragment}
 use Rattle.expand.specs.Sum.{noSum}
@@ -77,11 +78,14 @@ pub data Brought : Type 0 where
   datagram : List ℕ → UdpSum → Brought
   part : ℕ → ℕ → ℕ → List ℕ → UdpSum → Brought
 
+-- the bytes of a part at the offset o: they end at a place of the scratch sc, or begin at one of the frame s
+abbrev pub bytesOf : Units → ℕ → List ℕ → List ℕ → List ℕ
+bytesOf o at sc s = choose (eqb (o .0) 0) (take at sc) (drop at s)
+
 -- sc: the scratch after the call; s: the frame
 abbrev pub ofPayload : Payload → List ℕ → List ℕ → Answer Brought
 ofPayload (Payload.Whole n m) sc s = is (datagram (take n sc) m)
-ofPayload (Payload.First size tag n e) sc s = is (part size tag 0 (take n sc) e)
-ofPayload (Payload.Later size tag o from) sc s = is (part size tag (o .0) (drop from s) noSum)
+ofPayload (Payload.Part size tag o m at) sc s = is (part size tag (o .0) (bytesOf o at sc s) m)
 ofPayload (Payload.Refused e) sc s = refused (numberOf e)
 
 -- the scratch after the call: what was expanded stands at its start, and nothing else of it changes; a refusal clears it
@@ -128,7 +132,7 @@ expanded (WordField.Some size) tag e = part size tag 0 (e .bytes) (e .sum)
 -- the answer for it, of n bytes
 abbrev pub expandedTo : WordField → ℕ → ℕ → UdpSum → Payload
 expandedTo WordField.None tag n m = Payload.Whole n m
-expandedTo (WordField.Some size) tag n m = Payload.First size tag n m
+expandedTo (WordField.Some size) tag n m = Payload.Part size tag (record { 0 = 0 }) m n
 
 -- what a payload that begins so brings
 abbrev pub behind : Head → List ℕ → Arrival → List ℕ → Answer Brought
@@ -148,11 +152,10 @@ abbrev pub Begins : Head → List ℕ → Arrival → List ℕ → Answer Brough
 Begins h ctx a s b = (behind h ctx a s ≡ b) × LaterWithin h s
 
 -- ---- the call
--- what the answer points at lies within the scratch l and the frame s; a later part is not at the start
+-- what the answer points at lies within the scratch l and the frame s
 abbrev pub Within : Payload → List ℕ → List ℕ → Type 0
 Within (Payload.Whole n m) l s = n ≤ length l
-Within (Payload.First size tag n e) l s = n ≤ length l
-Within (Payload.Later size tag o from) l s = (from ≤ length s) × (1 ≤ o .0)
+Within (Payload.Part size tag o m at) l s = at ≤ choose (eqb (o .0) 0) (length l) (length s)
 Within (Payload.Refused e) l s = Unit {0}
 
 -- the answer, and the scratch afterwards, are what b says

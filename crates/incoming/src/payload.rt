@@ -19,24 +19,20 @@ use sixlowpan::dispatch::DispatchAnswer;
 use sixlowpan::frag;
 use sixlowpan::frag::Units;
 
-// What a payload is. The bytes of a whole datagram and of a first part, in full, stand at the scratch's start; those of
-// a later part stand in the frame, from a place on.
+// What a payload is: a whole datagram, or a part of one. What was expanded stands, in full, at the scratch's start and
+// ends at a place: a whole datagram, and the part at offset 0. A later part's bytes stand in the frame and begin at a
+// place.
 pub enum Payload {
     Whole {
         len: usize,
         sum: UdpSum,
     },
-    First {
-        size: u16,
-        tag: u16,
-        len: usize,
-        sum: UdpSum,
-    },
-    Later {
+    Part {
         size: u16,
         tag: u16,
         offset: Units,
-        from: usize,
+        sum: UdpSum,
+        at: usize,
     },
     Refused(Refusal),
 }
@@ -123,12 +119,16 @@ fn expanded(size: WordField, tag: u16, len: usize, sum: UdpSum) -> Payload
 {
     match size {
         WordField::None => Payload::Whole { len, sum },
-        WordField::Some(size) => Payload::First {
-            size,
-            tag,
-            len,
-            sum,
-        },
+        WordField::Some(size) => {
+            let offset = Units(0);
+            Payload::Part {
+                size,
+                tag,
+                offset,
+                sum,
+                at: len,
+            }
+        }
     }
 }
 
@@ -156,12 +156,16 @@ impl Payload {
                 tag,
                 offset,
                 from,
-            } => Payload::Later {
-                size,
-                tag,
-                offset,
-                from,
-            },
+            } => {
+                let sum = UdpSum::NONE;
+                Payload::Part {
+                    size,
+                    tag,
+                    offset,
+                    sum,
+                    at: from,
+                }
+            }
             Head::Refused(e) => {
                 clear(scratch);
                 Payload::Refused(e)
