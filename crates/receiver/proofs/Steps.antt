@@ -5,16 +5,18 @@ use mathlib.Core.Bool.{Bool, true, false}
 use mathlib.Core.Path.{_≡_, refl, sym, ap, _∙_}
 use lib.ListN.{length, take, drop, length-drop}
 use lib.Seq.{take-all}
-use borrow.Author.Tests.{le-leb}
+use borrow.Author.Tests.{eq-eqb, ne-eqb, le-leb}
+use native.Mathlib.Nat.{sub-zero}
 use native.Mathlib.Omega.{arith}
-use Rattle.octets.specs.Read.{Answer, is, refused}
+use lib.Dec.{eqb}
+use Rattle.octets.specs.Read.{Answer, is, refused, choose}
 use Rattle.octets.specs.Refusal.{numberOf}
 use Rattle.octets.specs.Write.{put}
 use Rattle.octets.specs.declared.refusal.Refusal.{Refusal}
 use Rattle.octets.specs.declared.refusal.Refusal.the-variants.{BadChecksum}
-use Rattle.expand.specs.Sum.{noSum, holds, holdsIn}
+use Rattle.expand.specs.Sum.{holds, holdsIn}
 use Rattle.expand.specs.declared.checksum.UdpSum.{UdpSum}
-use Rattle.incoming.specs.Incoming.{ofArrival, arrival, Brought, datagram, part, payloadIn, Brings}
+use Rattle.incoming.specs.Incoming.{ofArrival, arrival, Brought, datagram, part, bytesOf, payloadIn, Brings}
 use Rattle.incoming.specs.declared.arrival.Arrival.{Arrival}
 use Rattle.incoming.specs.declared.arrival.ArrivalAnswer.{ArrivalAnswer}
 use Rattle.incoming.specs.declared.payload.Payload.{Payload}
@@ -67,11 +69,8 @@ module _ (gs : List Source) (ctx s : List ℕ) (y : ArrivalAnswer) (p : Admits g
     unfolding keyOf
     known = rw key (came .1)
 
-    pub frame-first : (n : ℕ) (el : UdpSum) → r ≡ Payload.First size tag n el → GateBrings gs ctx t s (partOf k 0 el (take n l))
-    frame-first n el e = (known, rw key (frame-brings (rw e at (b .answer))))
-
-    pub frame-later : (u : Units) (from : ℕ) → r ≡ Payload.Later size tag u from → (bs : List ℕ) → bs ≡ drop from s → GateBrings gs ctx t s (partOf k (u .0) noSum bs)
-    frame-later u from e bs w = (known, rw (key, w) (frame-brings (rw e at (b .answer))))
+    pub frame-part : (u : Units) (el : UdpSum) (at : ℕ) → r ≡ Payload.Part size tag u el at → (bs : List ℕ) → bs ≡ bytesOf u at l s → GateBrings gs ctx t s (partOf k (u .0) el bs)
+    frame-part u el at e bs w = (known, rw (key, w) (frame-brings (rw e at (b .answer))))
 
 -- the part of s from a place on, as a slice has it
 pub rest-is : (from : ℕ) (s : List ℕ) → take (length s - from) (drop from s) ≡ drop from s
@@ -82,11 +81,22 @@ module _ (r : Payload) (room l s : List ℕ) (b : Answer Brought) (h : Brings r 
   pub whole-within : (n : ℕ) (el : UdpSum) → r ≡ Payload.Whole n el → n ≤ length l
   whole-within n el e = rw e at (h .within)
 
-  pub first-within : (size tag n : ℕ) (el : UdpSum) → r ≡ Payload.First size tag n el → n ≤ length l
-  first-within size tag n el e = rw e at (h .within)
+  pub part-within : (size tag : ℕ) (u : Units) (el : UdpSum) (at : ℕ) → r ≡ Payload.Part size tag u el at → at ≤ choose (eqb (u .0) 0) (length l) (length s)
+  part-within size tag u el at e = rw e at (h .within)
 
-  pub later-within : (size tag : ℕ) (u : Units) (from : ℕ) → r ≡ Payload.Later size tag u from → from ≤ length s
-  later-within size tag u from e = (rw e at (h .within)) .0
+-- where a part's bytes stand, by whether it is at offset 0
+module _ (u : Units) (at : ℕ) (l s : List ℕ) (h : at ≤ choose (eqb (u .0) 0) (length l) (length s)) where
+  pub scratch-within : u .0 ≡ 0 → at ≤ length l
+  scratch-within z = rw (eq-eqb (u .0) 0 z) at h
+
+  pub scratch-bytes : u .0 ≡ 0 → take (at - 0) l ≡ bytesOf u at l s
+  scratch-bytes z = rw (eq-eqb (u .0) 0 z, sub-zero at) refl
+
+  pub frame-within : (u .0 ≡ 0 → ⊥) → at ≤ length s
+  frame-within z = rw (ne-eqb (u .0) 0 z) at h
+
+  pub frame-bytes : (u .0 ≡ 0 → ⊥) → take (length s - at) (drop at s) ≡ bytesOf u at l s
+  frame-bytes z = rw (ne-eqb (u .0) 0 z) (rest-is at s)
 
 -- ---- a datagram d that came whole, to the output o
 holds-all : (m : UdpSum) (d : List ℕ) → holdsIn m (length d) d ≡ holds m d

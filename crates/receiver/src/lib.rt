@@ -8,7 +8,9 @@
 ghost use mathlib.Core.Path.{_≡_};
 ghost use Prim.Native.Nat.{_≤_};
 ghost use lib.ListN.{length};
-ghost use Rattle.incoming.specs.Incoming.{ofArrival};
+ghost use lib.Dec.{eqb};
+ghost use Rattle.octets.specs.Read.{choose};
+ghost use Rattle.incoming.specs.Incoming.{ofArrival, bytesOf};
 ghost use Rattle.reassembly.specs.Slots.{gatesOf};
 ghost use Rattle.reassembly.specs.Parts.{withBytes};
 ghost use Rattle.reassembly.specs.Table.{step, Gives};
@@ -135,6 +137,17 @@ fn take(
     d.outcome
 }
 
+// The bytes of a part: those of the part at offset 0 end at a place of the scratch, others begin at one of the frame.
+fn part_bytes<'a>(scratch: &'a [u8], frame: &'a [u8], offset: Units, at: usize) -> &'a [u8]
+    requires { ⌜ at ≤ choose (eqb (offset .0) 0) (length (now scratch)) (length (now frame)) ⌝ }
+    ensures { λ r. ⌜ now r ≡ bytesOf offset at (now (scratch .entry)) (now (frame .entry)) ⌝ }
+{
+    if offset.0 == 0 {
+        return &scratch[0..at];
+    }
+    &frame[at..]
+}
+
 // A frame, to a table that has taken the time.
 fn receive_timed(
     t: &mut [u64; WORDS],
@@ -153,32 +166,16 @@ fn receive_timed(
             let mut scratch = [0u8; SCRATCH];
             match Payload::read(frame, a, contexts, &mut scratch) {
                 Payload::Whole { len, sum } => hand_over(&scratch[0..len], sum, out),
-                Payload::First {
-                    size,
-                    tag,
-                    len,
-                    sum,
-                } => {
-                    let key = key_of(a, size, tag);
-                    let offset = Units(0);
-                    take(
-                        t,
-                        time,
-                        Part { key, offset, sum },
-                        &scratch[0..len],
-                        mem,
-                        out,
-                    )
-                }
-                Payload::Later {
+                Payload::Part {
                     size,
                     tag,
                     offset,
-                    from,
+                    sum,
+                    at,
                 } => {
                     let key = key_of(a, size, tag);
-                    let sum = UdpSum::NONE;
-                    take(t, time, Part { key, offset, sum }, &frame[from..], mem, out)
+                    let bytes = part_bytes(&scratch, frame, offset, at);
+                    take(t, time, Part { key, offset, sum }, bytes, mem, out)
                 }
                 Payload::Refused(e) => Outcome::Refused(e),
             }

@@ -1,11 +1,10 @@
-use native.Mathlib.Nat.{min-le-right}
+use native.Mathlib.Nat.{sub-zero, min-le-right}
 use lib.ListN.{take, length-take}
 use Prim.Native.Nat.{ℕ, _-_, _≤_}
 use native.Mathlib.Omega.{arith}
-use native.Mathlib.Nat.{sub-zero}
 use mathlib.Core.Path.{refl}
 use lib.ListN.{length, replicate, length-replicate}
-use Rattle.receiver.proofs.Steps.{frame-whole, frame-refused, frame-first, frame-later, rest-is, whole-within, first-within, later-within}
+use Rattle.receiver.proofs.Steps.{frame-whole, frame-refused, frame-part, whole-within, part-within}
 use Rattle.receiver.proofs.Turns.{answers, refuses}
 use borrow.Author.Needs.{needs}
 use Rattle.receiver.proofs.receive_timed.Statement.{statement}
@@ -47,35 +46,14 @@ enum-known-size c = search needs
 key-of-requires : tie.Need-key-of-requires
 key-of-requires c κs = search needs
 
-sub-take : tie.Need-sub-take
-sub-take c = search needs
+slice-aggregate-part-bytes : tie.Need-slice-aggregate-part-bytes
+slice-aggregate-part-bytes c = search needs
 
-part-take-start : tie.Need-part-take-start
-part-take-start c = search needs
-
-part-take-end : tie.Need-part-take-end
-part-take-end c = first-within _ _ _ _ _ (c .before .before .before .before .before .before .before .read .ensures) _ _ _ _ (c .before .before .before .before .size .given .1)
+part-bytes-requires : tie.Need-part-bytes-requires
+part-bytes-requires c κs = part-within _ _ _ _ _ (c .before .before .before .before .before .before .read .ensures) _ _ _ _ _ (c .before .before .before .size .given .1)
 
 take-requires : tie.Need-take-requires
 take-requires c κs = search needs
-
-enum-known-size-2 : tie.Need-enum-known-size-2
-enum-known-size-2 c = search needs
-
-key-of-requires-2 : tie.Need-key-of-requires-2
-key-of-requires-2 c κs = search needs
-
-sub-take-2 : tie.Need-sub-take-2
-sub-take-2 c = later-within _ _ _ _ _ (c .before .before .before .before .before .before .read .ensures) _ _ _ _ (c .before .before .before .size2 .given .1)
-
-part-take-start-2 : tie.Need-part-take-start-2
-part-take-start-2 c = later-within _ _ _ _ _ (c .before .before .before .before .before .before .read .ensures) _ _ _ _ (c .before .before .before .size2 .given .1)
-
-part-take-end-2 : tie.Need-part-take-end-2
-part-take-end-2 c = search needs
-
-take-requires-2 : tie.Need-take-requires-2
-take-requires-2 c κs = search needs
 
 enum-known-e : tie.Need-enum-known-e
 enum-known-e c = search needs
@@ -96,22 +74,13 @@ same-length-3 : tie.Need-same-length-3
 same-length-3 c = search needs
 
 returns-2 : tie.Need-returns-2
-returns-2 c = (rw (sub-zero (c .before .before .before .before .before .before .before .before .before .before .before .before .size .given .0 .1 .1 .0)) at (c .before .before .before .before .take .ensures)) _ _ (frame-first _ _ _ _ (c .before .before .before .before .before .before .before .before .before .before .before .before .before .before .before .before .before .before .before .before .admit .ensures) _ (c .before .before .before .before .before .before .before .before .before .before .before .before .before .before .before .before .before .before .a .given .1) _ _ _ big (c .before .before .before .before .before .before .before .before .before .before .before .before .before .before .before .read .ensures) _ _ _ _ (c .before .before .before .before .before .before .before .before .before .before .key-of .ensures) _ _ (c .before .before .before .before .before .before .before .before .before .before .before .before .size .given .1))
-
-same-length-4 : tie.Need-same-length-4
-same-length-4 c = search needs
-
-same-length-5 : tie.Need-same-length-5
-same-length-5 c = search needs
+returns-2 c = (c .before .before .before .before .take .ensures) _ _ (frame-part _ _ _ _ (c .before .before .before .before .before .before .before .before .before .before .before .before .before .before .before .before .before .before .before .before .admit .ensures) _ (c .before .before .before .before .before .before .before .before .before .before .before .before .before .before .before .before .before .before .a .given .1) _ _ _ big (c .before .before .before .before .before .before .before .before .before .before .before .before .before .before .before .read .ensures) _ _ _ _ (c .before .before .before .before .before .before .before .before .before .before .key-of .ensures) _ _ _ (c .before .before .before .before .before .before .before .before .before .before .before .before .size .given .1) _ (c .before .before .before .before .before .before .before .before .part-bytes .ensures))
 
 returns-3 : tie.Need-returns-3
-returns-3 c = (c .before .before .before .before .take2 .ensures) _ _ (frame-later _ _ _ _ (c .before .before .before .before .before .before .before .before .before .before .before .before .before .before .before .before .before .before .before .admit .ensures) _ (c .before .before .before .before .before .before .before .before .before .before .before .before .before .before .before .before .before .a .given .1) _ _ _ big (c .before .before .before .before .before .before .before .before .before .before .before .before .before .before .read .ensures) _ _ _ _ (c .before .before .before .before .before .before .before .before .before .key-of2 .ensures) _ _ (c .before .before .before .before .before .before .before .before .before .before .before .size2 .given .1) _ (rest-is (c .before .before .before .before .before .before .before .before .before .before .before .size2 .given .0 .1 .1 .1 .0) (c .before .before .before .before .before .before .before .before .before .before .before .before .before .before .before .before .before .before .before .before .before .before .before .before .before .args .frame .now)))
+returns-3 c = answers _ _ _ _ _ _ _ (frame-refused _ _ _ _ (c .before .before .before .before .before .before .before .before .before .admit .ensures) _ (c .before .before .before .before .before .before .before .a .given .1) _ _ _ big (c .before .before .before .before .read .ensures) _ _ (c .before .e .given .1)) _ _ (record { answer = refl; output = refl })
 
 returns-4 : tie.Need-returns-4
-returns-4 c = answers _ _ _ _ _ _ _ (frame-refused _ _ _ _ (c .before .before .before .before .before .before .before .before .before .admit .ensures) _ (c .before .before .before .before .before .before .before .a .given .1) _ _ _ big (c .before .before .before .before .read .ensures) _ _ (c .before .e .given .1)) _ _ (record { answer = refl; output = refl })
-
-returns-5 : tie.Need-returns-5
-returns-5 c = refuses _ _ _ _ _ _ _ (c .before .before .before .admit .ensures) _ (c .before .e2 .given .1)
+returns-4 c = refuses _ _ _ _ _ _ _ (c .before .before .before .admit .ensures) _ (c .before .e2 .given .1)
 
 pub receive-timed-spec : {M : Type 1} → statement M
 receive-timed-spec =
@@ -128,16 +97,9 @@ receive-timed-spec =
     hand-over-requires
     enum-known-size
     key-of-requires
-    sub-take
-    part-take-start
-    part-take-end
+    slice-aggregate-part-bytes
+    part-bytes-requires
     take-requires
-    enum-known-size-2
-    key-of-requires-2
-    sub-take-2
-    part-take-start-2
-    part-take-end-2
-    take-requires-2
     enum-known-e
     enum-known-e-2
     same-length
@@ -145,8 +107,5 @@ receive-timed-spec =
     same-length-2
     same-length-3
     returns-2
-    same-length-4
-    same-length-5
     returns-3
-    returns-4
-    returns-5)
+    returns-4)
