@@ -1,3 +1,4 @@
 pub mod Lists
 pub mod Lengths
 pub mod Sending
+pub mod Unique
