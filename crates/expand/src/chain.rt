@@ -580,8 +580,9 @@ fn put_layer(
             put_extensions(frame, next, behind, w.within(src.iid, dst.iid), out)
         }
         KeptRead::Refused(e) => {
+            let way = w;
             let last = Last::Refused(e);
-            Reached { way: w, last }
+            Reached { way, last }
         }
     }
 }
