@@ -1,23 +1,21 @@
 -- A chain of headers: how far a step reads, the number that stands for it in front, and how long the chain gets.
 use Prim.Native.Nat.{ℕ, zero, suc, _+_, _-_, _*_, _/_, _%_, _^_, _≤_, _<_}
-use native.Mathlib.Nat.{add-assoc, zero-add}
 use native.Mathlib.Omega.{arith}
 use mathlib.Core.Bool.{Bool, true, false, _&&_, _||_}
-use mathlib.Core.List.{List, _++_}
+use mathlib.Core.List.{List}
 use mathlib.Core.Path.{_≡_, refl, sym, ap, subst, _∙_}
 use lib.ListN.{length, getD, take, drop, length-take, length-drop}
-use lib.Dec.{eqb, ltb, leb}
-use borrow.Author.Tests.{eq-eqb, ne-eqb, eqb-true, eqb-false, leb-true, le-leb, lt-leb}
-use Rattle.octets.specs.Read.{Answer, is, refused, Placed, Read, Reader, got, andThen, choose, branch, give, refuse, byte, be16, skip, _>>=_}
+use lib.Dec.{eqb, ltb}
+use borrow.Author.Tests.{eq-eqb, ne-eqb, eqb-true, eqb-false}
+use Rattle.octets.specs.Read.{Answer, is, refused, Reader, got, andThen, choose, branch, give, refuse, byte, be16, skip, _>>=_}
 use Rattle.octets.specs.declared.ipv6.Ipv6Addr.{Ipv6Addr}
-use Rattle.octets.proofs.Spans.{Starts, First, not-refused, starts-then, starts-byte, starts-be16, spans-byte, spans-skip}
+use Rattle.octets.proofs.Spans.{Starts, not-refused, starts-then, starts-byte, starts-be16, spans-byte, spans-skip}
 use Rattle.ieee802154.specs.Address.{flip57}
 use Rattle.ieee802154.specs.declared.addr.AddressField.{AddressField}
 use Rattle.sixlowpan.specs.Nhc.{nhcOf, nhc}
 use Rattle.sixlowpan.specs.NhcUdp.{udp, udpRest}
 use Rattle.sixlowpan.specs.NhcExt.{ext, extRest}
 use Rattle.sixlowpan.proofs.NhcSpans.{ext-length, udp-length}
-use Rattle.sixlowpan.specs.declared.protocol.IpProtocol.{IpProtocol}
 use Rattle.sixlowpan.specs.declared.protocol.NextHeader.{NextHeader}
 use Rattle.sixlowpan.specs.declared.protocol.NextHeader.the-variants.{Compressed, Uncompressed}
 use Rattle.sixlowpan.specs.declared.nhc.NhcPacket.{NhcPacket}
@@ -25,14 +23,13 @@ use Rattle.sixlowpan.specs.declared.nhc.NhcPacket.the-variants.{ExtHeader, UdpH
 use Rattle.sixlowpan.specs.declared.nhc.ExtHeaderId.{ExtHeaderId}
 use Rattle.sixlowpan.specs.declared.nhc.ExtHeaderId.the-variants.{HopByHopHeader, RoutingHeader, FragmentHeader, DestinationOptionsHeader, MobilityHeader, Header, Reserved}
 use Rattle.sixlowpan.specs.declared.nhc.ExtHeaderRepr.{ExtHeaderRepr}
-use Rattle.sixlowpan.specs.declared.nhc.UdpNhcRepr.{UdpNhcRepr}
 use Rattle.iphc.specs.Iphc.{linkIid, base, baseOf, behind, iphc}
 use Rattle.iphc.specs.declared.header.Repr.{Repr}
 use Rattle.iphc.proofs.Lengths.{iphc-length}
 use Rattle.expand.specs.Full.{isAbsent}
-use Rattle.expand.specs.Chain.{Chain, rest, udpThen, extension, ipv6, Link, udpLink, extLink, innerLink, Around, fullNumber, badLength, octets, extData, extBody, innerByte, extKind, idAt, udpStep, linkOf, link, within, past, inside, behindNext, headerThen, udpEnd, onward, chain, nhcNumber, nextNumber, headNumber, fullSize, sizeOf}
+use Rattle.expand.specs.Chain.{Chain, rest, udpThen, extension, ipv6, Link, udpLink, extLink, innerLink, Around, fullNumber, badLength, octets, extData, extBody, innerByte, extKind, idAt, udpStep, linkOf, link, within, past, inside, behindNext, headerThen, udpEnd, onward, chain, nhcNumber, nextNumber, headNumber, sizeOf}
 use Rattle.expand.specs.Walk.{identified}
-use Rattle.expand.proofs.Inverting.{invert, got-value, got-next, value-is}
+use Rattle.expand.proofs.Inverting.{invert, got-value, got-next}
 
 -- ---- how far a step reads
 abbrev pub Reach : Link → ℕ → ℕ → Type 0
@@ -365,9 +362,6 @@ chain-size (suc left) ctx s w at c n e =
     let t = link-steps (suc left) s at (i .value .value) (i .value .next) (i .first) in
     let z : Within (left + 1) s at c = onward-size left ctx s (chain left ctx) (chain-size left ctx s) w (i .value .value) at (i .value .next) c n (t .reach) (t .ends) (i .second) in
     omega (arith, z)
-
-pub next-size : (left : ℕ) (ctx s : List ℕ) (w : Around) (next : NextHeader) (at : ℕ) (c : Chain) (n : ℕ) → behindNext next (chain left ctx w) s at ≡ got c n → sizeOf c ≤ 40 * left + 8 + (length s - at)
-next-size left ctx s w next at c n e = behind-size left s (chain left ctx) (chain-size left ctx s) w next at c n e
 
 -- ---- RFC 6282, 3.2.2: the identifier of the address outside, its last 64 bits, whatever they are
 flip-back : (x : ℕ) → flip57 (flip57 x) ≡ x

@@ -1,17 +1,17 @@
 -- What the checksum does for a receiver (RFC 1071, 1: the sum over everything, the checksum included, is all ones), and that what stood in its
 -- place before does not matter.
-use Prim.Native.Nat.{ℕ, _+_, _-_, _*_, _/_, _^_, _≤_, _<_}
+use Prim.Native.Nat.{ℕ, _+_, _-_, _^_, _≤_, _<_}
 use native.Mathlib.Omega.{arith}
 use mathlib.Core.List.{List, [], _∷_, _++_, append-assoc}
 use mathlib.Core.Bool.{Bool, true, false}
 use mathlib.Core.Path.{_≡_, refl, sym, ap, subst, _∙_}
 use native.Mathlib.Nat.{add-assoc}
-use lib.ListN.{length, set, take, drop, length-append, length-take, length-drop, take-append-drop}
+use lib.ListN.{length, set, take, drop, length-take, length-drop, take-append-drop}
 use lib.Seq.{take-add, take-at, drop-at, drop-drop, take-set-le, drop-set-add}
 use lib.Dec.{eqb}
 use borrow.Author.Tests.{eqb-true, eqb-false}
 use Rattle.octets.specs.Read.{choose}
-use Rattle.octets.specs.Write.{put, be16Bytes, be32Bytes}
+use Rattle.octets.specs.Write.{put, be16Bytes}
 use Rattle.expand.specs.Sum.{words, onesSum, pseudo, covered, udpChecksum, summed, seen, checksumAt, summedAt, sumWords}
 use Rattle.expand.proofs.CopyLaws.{put-inside, length-put}
 use Rattle.expand.proofs.SumLaws.{Bytes, bytes-append, bytes-take, bytes-drop, norm, ones-norm, covered-bytes, covered-sum, length-seen}

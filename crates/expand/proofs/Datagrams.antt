@@ -1,31 +1,30 @@
 -- What every expansion has: its headers, its length, and where its checksum stands.
-use Prim.Native.Nat.{ℕ, _+_, _-_, _*_, _/_, _%_, _≤_, _<_}
+use Prim.Native.Nat.{ℕ, _+_, _-_, _/_, _%_, _≤_}
 use native.Mathlib.Omega.{arith}
 use mathlib.Core.List.{List, _++_}
 use mathlib.Core.Bool.{Bool, true, false, true≢false, _||_, _&&_}
 use mathlib.Core.Path.{_≡_, refl, sym, ap, subst, _∙_}
-use lib.ListN.{length, getD, take, drop, length-append, length-drop}
+use lib.ListN.{length, getD, drop}
 use lib.Seq.{getD-append-add}
 use lib.Dec.{eqb, ltb, leb}
 use borrow.Author.Tests.{ltb-false, leb-true, le-leb, eqb-true}
 use Rattle.octets.specs.Read.{Answer, is, refused, Read, got, andThen, choose}
-use Rattle.octets.specs.Write.{over, be16Bytes}
+use Rattle.octets.specs.Write.{be16Bytes}
 use Rattle.octets.specs.declared.field.WordField.{WordField}
 use Rattle.octets.proofs.Spans.{not-refused}
 use Rattle.ieee802154.specs.declared.addr.AddressField.{AddressField}
 use Rattle.iphc.specs.Iphc.{iphc}
 use Rattle.iphc.specs.declared.header.Repr.{Repr}
 use Rattle.sixlowpan.specs.declared.nhc.UdpNhcRepr.{UdpNhcRepr}
-use Rattle.expand.specs.Sum.{words, onesSum, pseudo, seen, summedAt, noSum, elidedAt, carriedAt, wasElided, stands, summedBy}
+use Rattle.expand.specs.Sum.{words, onesSum, pseudo, seen, summedAt, wasElided, stands, summedBy}
 use Rattle.expand.specs.Full.{ipv6With, udpFull, wordOr, isAbsent}
-use Rattle.expand.specs.Chain.{Chain, rest, udpThen, extension, ipv6, within, behindNext, headerThen, chain, chained, headNumber, fullSize, extFull, sizeOf, fullBytes, sumFor, sumIn, Measure, totalOf}
-use Rattle.expand.specs.Expand.{Expansion, finished, bytesOf, sized, expansion, measureOf, measured, answered, written}
+use Rattle.expand.specs.Chain.{Chain, rest, udpThen, extension, ipv6, within, behindNext, headerThen, chain, chained, headNumber, fullSize, extFull, sizeOf, fullBytes, sumFor, sumIn, totalOf}
+use Rattle.expand.specs.Expand.{Expansion, bytesOf, sized, expansion, measureOf, measured, answered, written}
 use Rattle.expand.specs.declared.checksum.UdpSum.{UdpSum}
 use Rattle.expand.proofs.Inverting.{invert, got-value, value-is}
 use Rattle.expand.proofs.FullLaws.{length-ipv6, length-ext}
 use Rattle.expand.proofs.SumLaws.{Bytes}
 use Rattle.expand.proofs.ChecksumLaws.{holds-at}
-use Rattle.expand.proofs.ExpandLaws.{over-is}
 use Rattle.expand.proofs.ChainLaws.{header-size, chain-size}
 use Rattle.expand.proofs.FillLaws.{length-full, length-bytes}
 
@@ -243,8 +242,3 @@ module _ (ctx : List ℕ) (ls ld : AddressField) (size : WordField) (s : List �
           let k : length (e .bytes) ≤ 455 = at-most-455 ctx ls ld size s at e (expansion-made ctx ls ld size s at e q) in
           let h : length (e .bytes) ≤ length room = omega arith in
           rw (le-leb (length (e .bytes)) (length room) h) refl
-
-  pub room-written : (e : Expansion) → expansion ctx ls ld size s at ≡ is e → written (is e) room ≡ e .bytes ++ drop (length (e .bytes)) room
-  room-written e q =
-      let k : length (e .bytes) ≤ 455 = at-most-455 ctx ls ld size s at e (expansion-made ctx ls ld size s at e q) in
-      over-is (e .bytes) room (length (e .bytes)) refl (omega arith)

@@ -1,7 +1,7 @@
 -- Frames worked out: the scope document's printed one, of 44 bytes, one with a flow label, UDP with its checksum elided, and chains of extension
 -- headers.
 use Prim.Native.Nat.{ℕ}
-use mathlib.Core.List.{List, [], _∷_, _++_}
+use mathlib.Core.List.{List, [], _∷_}
 use mathlib.Core.Bool.{Bool, true, false}
 use mathlib.Core.Path.{_≡_, refl}
 use lib.ListN.{take, drop}

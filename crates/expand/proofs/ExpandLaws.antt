@@ -1,24 +1,17 @@
--- The datagram as it is decided, measured and written.
-use Prim.Native.Nat.{ℕ, _+_, _-_, _≤_, _<_}
+-- What an expansion puts last, the rest of the frame and the checksum of a whole datagram; and bytes that fit into a room.
+use Prim.Native.Nat.{ℕ, _≤_}
 use native.Mathlib.Omega.{arith}
 use mathlib.Core.List.{List, _++_}
-use mathlib.Core.Bool.{false}
-use mathlib.Core.Path.{_≡_, refl, sym, ap, _∙_}
-use lib.ListN.{length, take, drop, length-append, length-drop}
+use mathlib.Core.Path.{_≡_, refl, ap, _∙_}
+use lib.ListN.{length, take, drop, length-drop}
 use lib.Seq.{take-all}
-use lib.Dec.{ltb, leb}
-use borrow.Author.Tests.{lt-ltb, le-ltb, le-leb, lt-leb}
-use Rattle.octets.specs.Read.{Answer, is, refused, Placed, Read, got, andThen, choose}
-use Rattle.octets.specs.Refusal.{numberOf}
+use lib.Dec.{leb}
+use borrow.Author.Tests.{le-leb}
+use Rattle.octets.specs.Read.{is}
 use Rattle.octets.specs.Write.{put, over}
-use Rattle.octets.specs.declared.refusal.Refusal.{Refusal}
 use Rattle.octets.specs.declared.field.WordField.{WordField}
-use Rattle.octets.proofs.Puts.{put-front, put-append, more}
-use Rattle.ieee802154.specs.declared.addr.AddressField.{AddressField}
-use Rattle.expand.specs.Sum.{summedBy, summedIn}
-use Rattle.expand.specs.Full.{ipv6With}
-use Rattle.expand.specs.Expand.{Expansion, finished, finishedIn, bytesOf, sized, measured, answered, written}
-use Rattle.expand.specs.Chain.{Chain, ipv6, headNumber, sizeOf, fullBytes, sumIn, totalOf}
+use Rattle.expand.specs.Sum.{summedIn}
+use Rattle.expand.specs.Expand.{finished, finishedIn}
 use Rattle.expand.specs.declared.checksum.UdpSum.{UdpSum}
 use Rattle.expand.proofs.SumLaws.{length-summed, summed-front}
 

@@ -5,7 +5,7 @@ use native.Mathlib.Omega.{arith}
 use mathlib.Core.List.{List, _++_}
 use mathlib.Core.Bool.{Bool, true, false}
 use mathlib.Core.Path.{_≡_, refl, sym, ap, subst, _∙_}
-use lib.ListN.{length, take, drop, replicate, length-append, length-replicate}
+use lib.ListN.{length, take, drop, replicate, length-append}
 use lib.Seq.{take-append-seam}
 use lib.Dec.{ltb, leb}
 use borrow.Author.Tests.{lt-ltb, le-ltb, leb-true, le-leb, lt-leb}
@@ -20,7 +20,7 @@ use Rattle.ieee802154.specs.declared.addr.AddressField.{AddressField}
 use Rattle.expand.specs.Full.{ipv6With, udpFull}
 use Rattle.expand.specs.Expand.{Expansion, ofExpanded, measureOf, finished, finishedIn, bytesOf, sized, expansion, measured, answered, written, filled, Fills}
 use Rattle.expand.specs.Chain.{Chain, rest, udpThen, extension, ipv6, chained, headNumber, fullSize, extFull, sizeOf, fullBytes, sumIn, totalIn, totalOf, Measure}
-use Rattle.expand.specs.Walk.{start, ofWalked, ending, endOf, laid, Laying, Ends}
+use Rattle.expand.specs.Walk.{start, ofWalked, ending, endOf, putAhead, PutsAhead, Ends}
 use Rattle.expand.specs.declared.checksum.UdpSum.{UdpSum}
 use Rattle.expand.specs.declared.chain.Walked.{Walked}
 use Rattle.expand.specs.declared.datagram.Expanded.{Expanded}
@@ -117,9 +117,9 @@ module _ (ctx : List ℕ) (ls ld : AddressField) (size : WordField) (s : List �
       walk-answered = ap ofWalked (sym g) ∙ answer-is
 
       pub walk-written : (out : List ℕ) → out ≡ finishedIn size u len n → out ≡ written whole room
-      walk-written out q = go (chained ctx ls ld s at) (subst (λ v. Laying v size start (chained ctx ls ld s at) room n) g (W .bytes)) (walk-answered ∙ ap (λ m. answered m room) expansion-is) ∙ ap (λ m. written m room) (sym expansion-is)
+      walk-written out q = go (chained ctx ls ld s at) (subst (λ v. PutsAhead v size start (chained ctx ls ld s at) room n) g (W .bytes)) (walk-answered ∙ ap (λ m. answered m room) expansion-is) ∙ ap (λ m. written m room) (sym expansion-is)
         where
-          go : (r : Read Chain) → n ≡ laid (totalOf size len) start r room → is (record { len = len; sum = u }) ≡ answered (andThen r (λ p. sized size (p .value))) room → out ≡ written (andThen r (λ p. sized size (p .value))) room
+          go : (r : Read Chain) → n ≡ putAhead (totalOf size len) start r room → is (record { len = len; sum = u }) ≡ answered (andThen r (λ p. sized size (p .value))) room → out ≡ written (andThen r (λ p. sized size (p .value))) room
           go (refused k) b w = not-refused _ k (sym w)
           go (is p) b w = chain-written size (p .value) len u room n out b q w
 
@@ -182,11 +182,11 @@ module _ (m : Answer Expansion) (room r out : List ℕ) (len : ℕ) (u : UdpSum)
             rw (le-leb (length (x .bytes)) (length out) (omega (arith, e, h))) g
 
     pub copied-bytes : (l : List ℕ) → l ≡ put 0 (take len (drop 0 r)) out → l ≡ written m out
-    copied-bytes l c = go m q big f
+    copied-bytes l c = go m q f
       where
-        go : (m : Answer Expansion) → is (record { len = len; sum = u }) ≡ answered m room → answered m room ≡ measured m → r ≡ filled m room → l ≡ written m out
-        go (refused n) q big f = not-refused _ n (sym q)
-        go (is x) q big f = fits (leb (length (x .bytes)) (length room)) q f
+        go : (m : Answer Expansion) → is (record { len = len; sum = u }) ≡ answered m room → r ≡ filled m room → l ≡ written m out
+        go (refused n) q f = not-refused _ n (sym q)
+        go (is x) q f = fits (leb (length (x .bytes)) (length room)) q f
           where
             fits : (t : Bool) → is (record { len = len; sum = u }) ≡ choose t (is (measureOf x)) (refused 7) → r ≡ choose t (x .bytes ++ drop (length (x .bytes)) room) (replicate (length room) 0) → l ≡ over (length (x .bytes)) (x .bytes) out
             fits false g f = not-refused _ 7 (sym g)

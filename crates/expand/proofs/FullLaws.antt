@@ -1,7 +1,7 @@
 -- The headers in full, as they are put: a field after a field, each length, and what calls gave.
-use Prim.Native.Nat.{ℕ, zero, suc, _+_, _-_, _*_, _/_, _≤_, _<_}
+use Prim.Native.Nat.{ℕ, zero, suc, _+_, _-_, _/_, _≤_, _<_}
 use native.Mathlib.Omega.{arith}
-use mathlib.Core.List.{List, [], _∷_, _++_}
+use mathlib.Core.List.{List, [], _∷_}
 use mathlib.Core.Path.{_≡_, refl, sym, ap, _∙_}
 use lib.ListN.{length, take, drop, length-append, length-take, length-drop, length-replicate}
 use Rattle.octets.specs.Write.{put, byteBytes, be16Bytes, be32Bytes, be64Bytes}

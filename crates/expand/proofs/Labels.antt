@@ -18,7 +18,7 @@ use Rattle.iphc.specs.declared.read.Traffic.{Traffic}
 use Rattle.iphc.proofs.Gives.{Gives, gives-all, gives-give, gives-then, gives-map, gives-either, gives-byte}
 use Rattle.iphc.proofs.Labels.{label-fits}
 use Rattle.sixlowpan.specs.Next.{nextHeader}
-use Rattle.expand.specs.Full.{byteOr, labelOr, classOf, firstWord}
+use Rattle.expand.specs.Full.{byteOr, classOf, firstWord}
 
 word-label : (h : Repr) (l : FlowLabel) → h .«flow_label» ≡ LabelField.Some l → l .0 < 2 ^ 20 → firstWord h % 2 ^ 20 ≡ l .0
 word-label h l e f = rw e (omega arith)

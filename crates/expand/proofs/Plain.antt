@@ -1,7 +1,7 @@
 -- Where there is no extension header, the expansion is what the scope document had before: the definitions of specs/Plain.antt, which know no chain.
 use Prim.Native.Nat.{ℕ, _+_, _-_, _≤_}
 use native.Mathlib.Nat.{zero-add}
-use mathlib.Core.List.{List, [], _++_}
+use mathlib.Core.List.{List, _++_}
 use mathlib.Core.Bool.{Bool, true, false}
 use mathlib.Core.Path.{_≡_, refl, sym, ap, subst, _∙_}
 use lib.ListN.{length, drop}
@@ -9,7 +9,7 @@ use lib.Dec.{ltb, leb}
 use native.Mathlib.Omega.{arith}
 use borrow.Author.Tests.{le-ltb}
 use Rattle.expand.proofs.Inverting.{invert, value-is}
-use Rattle.octets.specs.Read.{Answer, is, refused, Placed, Read, got, andThen, choose}
+use Rattle.octets.specs.Read.{Answer, is, refused, Read, got, andThen, choose}
 use Rattle.octets.specs.declared.field.WordField.{WordField}
 use Rattle.octets.proofs.Spans.{not-refused}
 use Rattle.ieee802154.specs.declared.addr.AddressField.{AddressField}
@@ -23,10 +23,10 @@ use Rattle.sixlowpan.specs.declared.protocol.NextHeader.the-variants.{Compresse
 use Rattle.sixlowpan.specs.declared.nhc.NhcPacket.{NhcPacket}
 use Rattle.sixlowpan.specs.declared.nhc.NhcPacket.the-variants.{ExtHeader, UdpHeader}
 use Rattle.sixlowpan.specs.declared.nhc.UdpNhcRepr.{UdpNhcRepr}
-use Rattle.expand.specs.Full.{ipv6With, udpFull}
-use Rattle.expand.specs.Chain.{Chain, rest, udpThen, ipv6, Link, udpLink, within, behindNext, headerThen, udpStep, linkOf, link, udpEnd, onward, chain, chained, headNumber, sizeOf, fullBytes, sumIn, totalOf}
+use Rattle.expand.specs.Full.{ipv6With}
+use Rattle.expand.specs.Chain.{Chain, rest, udpThen, ipv6, udpLink, within, behindNext, headerThen, udpStep, linkOf, link, udpEnd, onward, chain, chained, headNumber, sizeOf, fullBytes, sumIn, totalOf}
 use Rattle.expand.specs.Expand as Expand
-use Rattle.expand.specs.Expand.{Expansion, finished, expansion}
+use Rattle.expand.specs.Expand.{Expansion, expansion}
 use Rattle.expand.specs.Plain as Plain
 use Rattle.expand.specs.Plain.{UdpField, Headers, transport, byNext, headers, plain, lengthOf, plainly}
 

@@ -1,6 +1,6 @@
 -- What a step of a chain, read in code, says of the definition's next step. `search` proves from these a `returns` of the readers of chain.rt.
-use Prim.Native.Nat.{ℕ, _+_, _-_, _*_, _/_, _%_, _^_, _≤_, _<_}
-use mathlib.Core.Bool.{Bool, true, false, _&&_, _||_, not}
+use Prim.Native.Nat.{ℕ, _+_, _-_, _/_, _%_, _^_}
+use mathlib.Core.Bool.{Bool, true, false, _||_, not}
 use mathlib.Core.List.{List}
 use mathlib.Core.Path.{_≡_, refl, sym, ap, _∙_}
 use lib.ListN.{length, getD, take, drop}
@@ -9,7 +9,7 @@ use native.Mathlib.Omega.{arith}
 use Rattle.octets.proofs.Spans.{not-refused}
 use Rattle.expand.proofs.Inverting.{got-next}
 use borrow.Author.Tests.{eq-eqb, ne-eqb}
-use Rattle.octets.specs.Read.{Answer, is, refused, Placed, Read, got, andThen, choose, skip}
+use Rattle.octets.specs.Read.{Answer, refused, Placed, Read, got, andThen, choose, skip}
 use Rattle.octets.specs.Answers.{ofSkip}
 use Rattle.octets.specs.Refusal.{numberOf}
 use Rattle.octets.specs.declared.refusal.Refusal.{Refusal}
@@ -19,18 +19,16 @@ use Rattle.octets.specs.declared.field.WordField.{WordField}
 use Rattle.ieee802154.specs.declared.addr.Address.the-variants.{Extended}
 use Rattle.ieee802154.specs.declared.addr.AddressField.{AddressField}
 use Rattle.sixlowpan.specs.NhcExt.{idOf}
-use Rattle.sixlowpan.specs.declared.protocol.IpProtocol.{IpProtocol}
 use Rattle.sixlowpan.specs.declared.protocol.NextHeader.{NextHeader}
-use Rattle.sixlowpan.specs.declared.protocol.NextHeader.the-variants.{Compressed, Uncompressed}
+use Rattle.sixlowpan.specs.declared.protocol.NextHeader.the-variants.{Compressed}
 use Rattle.sixlowpan.specs.declared.nhc.NhcPacket.{NhcPacket}
 use Rattle.sixlowpan.specs.declared.nhc.NhcPacket.the-variants.{ExtHeader, UdpHeader}
 use Rattle.sixlowpan.specs.declared.nhc.ExtHeaderId.{ExtHeaderId}
 use Rattle.sixlowpan.specs.declared.nhc.ExtHeaderId.the-variants.{HopByHopHeader, RoutingHeader, FragmentHeader, DestinationOptionsHeader, MobilityHeader, Header, Reserved}
 use Rattle.expand.specs.Full.{isAbsent}
 use Rattle.expand.specs.Sum.{noSum, elidedAt, carriedAt}
-use Rattle.expand.specs.Chain.{Link, extLink, fullNumber, isPadded, badLength, idAt, octets, extKind, extBody, innerByte, udpStep, linkOf, nhcNumber, nextNumber, sumFor, fullSize}
+use Rattle.expand.specs.Chain.{Link, extLink, fullNumber, isPadded, badLength, idAt, octets, extKind, extBody, innerByte, udpStep, linkOf, nextNumber, sumFor, fullSize}
 use Rattle.expand.specs.Walk.{identified, passed}
-use Rattle.expand.specs.declared.checksum.UdpSum.{UdpSum}
 use Rattle.expand.specs.declared.chain.Way.{Way}
 
 -- ---- by EID

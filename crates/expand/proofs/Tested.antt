@@ -2,19 +2,19 @@
 use Prim.Native.Nat.{ℕ, _+_, _-_, _*_, _/_, _%_, _^_, _≤_, _<_}
 use native.Mathlib.Nat.{add-zero, sub-zero}
 use native.Mathlib.Omega.{arith}
-use mathlib.Core.List.{List, [], _∷_, _++_, append-assoc}
-use mathlib.Core.Bool.{Bool, true, false, true≢false, _&&_}
-use mathlib.Core.Path.{_≡_, refl, sym, ap, subst, _∙_}
-use lib.ListN.{length, getD, take, drop, length-take, length-drop, take-append-drop}
-use lib.Seq.{getD-take, getD-drop, drop-drop, take-add, drop-cons}
+use mathlib.Core.List.{List, _∷_, _++_}
+use mathlib.Core.Bool.{Bool, true, false, _&&_}
+use mathlib.Core.Path.{_≡_, refl, sym, ap, _∙_}
+use lib.ListN.{length, getD, take, drop, length-take, take-append-drop}
+use lib.Seq.{getD-take, getD-drop, drop-drop, drop-cons}
 use lib.Dec.{eqb, leb}
 use borrow.Author.Tests.{leb-true, le-leb, lt-leb, eq-eqb, ne-eqb, eqb-true, eqb-false}
 use Rattle.octets.specs.Read.{choose}
-use Rattle.octets.specs.Write.{put, be16Bytes, be32Bytes}
-use Rattle.expand.specs.Sum.{words, onesSum, pseudo, covered, udpChecksum, summed, seen, checksumAt, summedAt, wasElided, wasCarried, stands, be16At, holds, holdsIn, sumWords}
+use Rattle.octets.specs.Write.{be16Bytes}
+use Rattle.expand.specs.Sum.{words, onesSum, pseudo, covered, udpChecksum, seen, checksumAt, wasCarried, stands, be16At, holds, holdsIn, sumWords}
 use Rattle.expand.specs.declared.checksum.UdpSum.{UdpSum}
 use Rattle.expand.proofs.SumLaws.{Bytes, norm, ones-norm, covered-bytes, covered-sum, stands-facts, length-seen, behind-seen}
-use Rattle.expand.proofs.ChecksumLaws.{checksum-sent, sent, all-ones, checksum-fits, bytes-seen}
+use Rattle.expand.proofs.ChecksumLaws.{checksum-sent, sent, all-ones, bytes-seen}
 
 -- ---- the code
 not-tested-go : (m : UdpSum) (n : ℕ) (l : List ℕ) (t : Bool) → leb n (length l) ≡ t → (wasCarried m && stands m n) ≡ false → true ≡ choose t (holds m (take n l)) true

@@ -1,15 +1,15 @@
 -- The walk over the headers of a frame, in code: each step of it comes to the same as what was to be read before it.
 use Prim.Native.Nat.{ℕ, suc, _+_, _-_, _*_, _≤_, _<_}
-use native.Mathlib.Nat.{add-assoc, zero-add}
+use native.Mathlib.Nat.{add-assoc}
 use native.Mathlib.Omega.{arith}
 use mathlib.Core.Bool.{Bool, true, false, _&&_, _||_, true≢false}
 use mathlib.Core.List.{List, [], _∷_, _++_, append-nil}
 use mathlib.Core.Path.{_≡_, refl, sym, ap, subst, _∙_}
-use lib.ListN.{length, getD, set, take, drop, length-take, length-drop, length-set}
+use lib.ListN.{length, getD, set, take, drop}
 use lib.Seq.{set-set, take-suc, take-suc-set, getD-set-same, getD-set-other}
 use lib.Dec.{eqb, leb}
 use borrow.Author.Tests.{eqb-true, eqb-false, le-leb, lt-leb}
-use Rattle.octets.specs.Read.{Answer, is, refused, Placed, Read, got, andThen, choose}
+use Rattle.octets.specs.Read.{Answer, is, refused, Read, got, andThen, choose}
 use Rattle.octets.specs.Refusal.{numberOf}
 use Rattle.octets.specs.Write.{put, byteBytes, be16Bytes, be32Bytes}
 use Rattle.octets.specs.declared.refusal.Refusal.{Refusal}
@@ -23,14 +23,13 @@ use Rattle.iphc.specs.Answers.{ofParsed}
 use Rattle.iphc.specs.declared.header.Repr.{Repr}
 use Rattle.iphc.specs.declared.header.Parsed.{Parsed}
 use Rattle.iphc.specs.declared.read.LinkAddresses.{LinkAddresses}
-use Rattle.sixlowpan.specs.declared.protocol.IpProtocol.{IpProtocol}
 use Rattle.sixlowpan.specs.declared.protocol.NextHeader.{NextHeader}
 use Rattle.sixlowpan.specs.declared.protocol.NextHeader.the-variants.{Compressed, Uncompressed}
 use Rattle.sixlowpan.specs.declared.nhc.UdpNhcRepr.{UdpNhcRepr}
 use Rattle.expand.specs.Full.{isAbsent, firstWord, frontWith, bothBytes, ipv6With, udpFull, keep, keptFull}
 use Rattle.expand.specs.Sum.{noSum}
 use Rattle.expand.specs.Chain.{Chain, rest, udpThen, extension, ipv6, Link, udpLink, innerLink, link, within, past, behindNext, headerThen, udpEnd, onward, chain, chained, nextNumber, headNumber, fullSize, extFull, sizeOf, fullBytes, sumFor, sumIn, Measure, totalOf, totalIn}
-use Rattle.expand.specs.Walk.{extBytes, extOf, ofLink, isCompressed, kept, ofKept, ofTotal, start, passed, entered, fewer, around, identified, aheadOf, Room, ending, endOf, laid, patch, patches, NotInner, ahead, ofWalked, Onward, Reaches, Lays, Ends, Laying}
+use Rattle.expand.specs.Walk.{extBytes, extOf, ofLink, isCompressed, kept, ofKept, ofTotal, start, passed, entered, fewer, around, identified, aheadOf, Room, ending, endOf, putAhead, patch, patches, NotInner, ahead, ofWalked, Onward, Reaches, Lays, Ends, PutsAhead}
 use Rattle.expand.specs.declared.checksum.UdpSum.{UdpSum}
 use Rattle.expand.specs.declared.ip.Kept.{Kept}
 use Rattle.expand.specs.declared.chain.Extension.{Extension}
@@ -115,7 +114,7 @@ onward-same w m k l e = rw e (record { answer = λ size n. refl; bytes = λ t. r
 pub onward-then : {ps qs l o u : List ℕ} {w v x : Way} {m k j : Read Chain} → Onward ps w m l v k o → Onward qs v k o x j u → Onward (ps ++ qs) w m l x j u
 onward-then {ps} {qs} {u = u} {x = x} {j = j} A B = record {
   answer = λ size n. A .answer size n ∙ B .answer size n;
-  bytes = λ t. A .bytes t ∙ ap (patches t ps) (B .bytes t) ∙ sym (patches-append t ps qs (laid t x j u));
+  bytes = λ t. A .bytes t ∙ ap (patches t ps) (B .bytes t) ∙ sym (patches-append t ps qs (putAhead t x j u));
 }
 
 -- with one header fewer to come
@@ -123,7 +122,7 @@ pub onward-fewer : (w : Way) (m : Read Chain) (l : List ℕ) → Onward [] w m l
 unfolding patches
 onward-fewer w m l = record { answer = λ size n. refl; bytes = λ t. go t m }
   where
-    go : (t : ℕ) (m : Read Chain) → laid t w m l ≡ patches t [] (laid t (fewer w) m l)
+    go : (t : ℕ) (m : Read Chain) → putAhead t w m l ≡ patches t [] (putAhead t (fewer w) m l)
     go t (is p) = refl
     go t (refused n) = refl
 
@@ -416,7 +415,7 @@ module _ (ctx s places l o : List ℕ) (size : WordField) (m : Read Chain) (r : 
 
   pub walked-on : (len t : ℕ) (u : UdpSum) (q : List ℕ) → y ≡ Walked.End len u → t ≡ totalOf size len → q ≡ patches t (take (r .count) places) p → Ends (Walked.End len u) start size m l q
   walked-on len t u q g e b =
-      let a : p ≡ laid (totalOf size len) (r .reached .way) (ahead ctx (r .reached) s) o = subst (λ z. Laying z size (r .reached .way) (ahead ctx (r .reached) s) o p) g (E .bytes) in
+      let a : p ≡ putAhead (totalOf size len) (r .reached .way) (ahead ctx (r .reached) s) o = subst (λ z. PutsAhead z size (r .reached .way) (ahead ctx (r .reached) s) o p) g (E .bytes) in
       record {
         answer = ap ofWalked (sym g) ∙ walked;
         bytes = b ∙ ap (λ z. patches z (take (r .count) places) p) e ∙ ap (patches (totalOf size len) (take (r .count) places)) a ∙ sym (L .reaches .onward .bytes (totalOf size len));

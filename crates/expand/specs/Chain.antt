@@ -5,7 +5,7 @@ use mathlib.Core.List.{List, [], _∷_, _++_}
 use mathlib.Core.Bool.{Bool, true, false, _&&_, _||_, not}
 use lib.ListN.{length, getD, take, drop, replicate}
 use lib.Dec.{eqb, leb}
-use Rattle.octets.specs.Read.{Answer, is, refused, Read, Reader, got, andThen, choose, branch, give, refuse, byte, skip, _>>=_}
+use Rattle.octets.specs.Read.{Answer, is, refused, Reader, got, andThen, choose, branch, give, refuse, byte, skip, _>>=_}
 use Rattle.octets.specs.Write.{byteBytes}
 use Rattle.octets.specs.declared.field.WordField.{WordField}
 use Rattle.octets.specs.declared.ipv6.Ipv6Addr.{Ipv6Addr}

@@ -1,5 +1,5 @@
 -- The datagram that a frame stands for (the scope document, "Expansion and the slot table").
-use Prim.Native.Nat.{ℕ, _+_, _-_}
+use Prim.Native.Nat.{ℕ}
 use mathlib.Core.Path.{_≡_}
 use mathlib.Core.List.{List, _++_}
 use mathlib.Core.Bool.{false}

@@ -2,7 +2,6 @@
 -- the datagram that they stand for, without a word of chains. proofs/Plain.antt shows that the expansion is this one wherever this one is not 13.
 use Prim.Native.Nat.{ℕ, _+_, _-_}
 use mathlib.Core.List.{List, [], _++_}
-use mathlib.Core.Bool.{Bool, true, false}
 use lib.Dec.{ltb, leb}
 use lib.ListN.{length, drop}
 use Rattle.octets.specs.Read.{Answer, is, refused, andThen, choose}
@@ -68,10 +67,6 @@ udpBytes (UdpField.Some h) payload = udpFull h payload
 abbrev pub udpSize : UdpField → ℕ
 udpSize UdpField.None = 0
 udpSize (UdpField.Some h) = 8
-
-abbrev pub isElided : UdpField → Bool
-isElided UdpField.None = false
-isElided (UdpField.Some h) = isAbsent (h .checksum)
 
 abbrev pub sumOf : UdpField → UdpSum
 sumOf UdpField.None = noSum

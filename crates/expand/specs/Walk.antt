@@ -91,7 +91,7 @@ aheadOf ctx w (Last.Refused e) s = refused (numberOf e)
 abbrev pub ahead : List ℕ → Reached → List ℕ → Read Chain
 ahead ctx r s = aheadOf ctx (r .way) (r .last) s
 
--- a header takes at most 40 bytes more than it was read from, and 455 bytes are enough for all
+-- each of eight headers takes at most 40 bytes more than it was read from, and a frame has 127: at most 447 bytes, and 8 more for UDP
 abbrev pub Room : Way → Last → List ℕ → Type 0
 Room w (Last.Rest c) s = w .at ≤ 447
 Room w (Last.Udp c h) s = w .at ≤ 447
@@ -112,10 +112,10 @@ ending size w n c = andThen (totalIn size (w .at + sizeOf c) n) (λ t. is (recor
 abbrev pub endOf : WordField → Way → ℕ → Read Chain → Answer Measure
 endOf size w n m = andThen m (λ p. ending size w n (p .value))
 
--- and the room: the bytes of what is ahead are put at their place, t being the length of the whole
-abbrev pub laid : ℕ → Way → Read Chain → List ℕ → List ℕ
-laid t w (is p) l = put (w .at) (fullBytes t (w .at) (p .value)) l
-laid t w (refused n) l = []
+-- and the room: the bytes of what is ahead are put at their place, t being the length of the whole; [] where that is refused
+abbrev pub putAhead : ℕ → Way → Read Chain → List ℕ → List ℕ
+putAhead t w (is p) l = put (w .at) (fullBytes t (w .at) (p .value)) l
+putAhead t w (refused n) l = []
 
 -- the payload lengths of the IPv6 headers that stand at these places
 abbrev pub patch : ℕ → ℕ → List ℕ → List ℕ
@@ -125,11 +125,11 @@ unfoldable pub patches : ℕ → List ℕ → List ℕ → List ℕ
 patches t [] l = l
 patches t (o ∷ os) l = patch t o (patches t os l)
 
--- from the way w, with m ahead and the room l, the walk has come to v, k and o: it comes to the same, but that the payload lengths at the
--- places ps are still to be put
+-- from the way w, with m ahead and the room l, the walk has come to the way v, with k ahead and the room o: that comes to the same, but that
+-- the payload lengths at the places ps are still to be put
 pub record Onward (ps : List ℕ) (w : Way) (m : Read Chain) (l : List ℕ) (v : Way) (k : Read Chain) (o : List ℕ) : Type 0 where
   pub answer : (size : WordField) (n : ℕ) → endOf size w n m ≡ endOf size v n k
-  pub bytes : (t : ℕ) → laid t w m l ≡ patches t ps (laid t v k o)
+  pub bytes : (t : ℕ) → putAhead t w m l ≡ patches t ps (putAhead t v k o)
 
 -- the walk has reached r, from the way w with m ahead in the frame s; the room was l and is o
 pub record Reaches (ctx : List ℕ) (r : Reached) (ps : List ℕ) (w : Way) (m : Read Chain) (s l o : List ℕ) : Type 0 where
@@ -148,11 +148,11 @@ abbrev pub ofWalked : Walked → Answer Measure
 ofWalked (Walked.End n m) = is (record { len = n; sum = m })
 ofWalked (Walked.Refused e) = refused (numberOf e)
 
-abbrev pub Laying : Walked → WordField → Way → Read Chain → List ℕ → List ℕ → Type 0
-Laying (Walked.End e u) size w m l o = o ≡ laid (totalOf size e) w m l
-Laying (Walked.Refused e) size w m l o = Unit {0}
+abbrev pub PutsAhead : Walked → WordField → Way → Read Chain → List ℕ → List ℕ → Type 0
+PutsAhead (Walked.End e u) size w m l o = o ≡ putAhead (totalOf size e) w m l
+PutsAhead (Walked.Refused e) size w m l o = Unit {0}
 
 -- the walk is at its end; where it is refused nothing is said of the room
 pub record Ends (r : Walked) (w : Way) (size : WordField) (m : Read Chain) (l o : List ℕ) : Type 0 where
   pub answer : ofWalked r ≡ endOf size w (length l) m
-  pub bytes : Laying r size w m l o
+  pub bytes : PutsAhead r size w m l o

@@ -76,8 +76,8 @@ pub struct Way {
     pub routed: bool,
 }
 
-// What stands behind extension headers: the payload, whose number stood inline; a UDP header, and its data behind it;
-// an IPv6 header.
+// What stands behind the extension headers of a layer, and where: the payload, whose number stood inline; the data
+// behind a UDP header; an IPv6 header.
 pub enum Last {
     Rest(Cursor),
     Udp(Cursor, UdpNhcRepr),
@@ -91,7 +91,7 @@ pub struct Reached {
     pub last: Last,
 }
 
-// All headers but UDP's are put, and that many of them are IPv6 headers.
+// All headers but UDP's are put, unless something was refused, and so many of them are IPv6 headers.
 pub struct Laid {
     pub reached: Reached,
     pub count: usize,
@@ -170,7 +170,7 @@ fn is_bad(id: ExtHeaderId, n: u8) -> bool
 }
 
 // The number that stands for a compressed header in the next header field in front of it.
-pub(crate) fn next_number(frame: &[u8], next: NextHeader, at: usize) -> u8
+fn next_number(frame: &[u8], next: NextHeader, at: usize) -> u8
     ensures { λ r. ⌜ r ≡ nextNumber next (now (frame .entry)) at ⌝ }
 {
     match next {
@@ -282,7 +282,7 @@ fn inside(i: u64) -> AddressField
 }
 
 // What a length field says: all that follows.
-pub(crate) fn less(total: u16, at: u16) -> u16
+fn less(total: u16, at: u16) -> u16
     ensures { λ r. ⌜ r ≡ total - at ⌝ }
 {
     if total < at { 0 } else { total - at }
@@ -305,7 +305,7 @@ fn span(from: usize, to: usize) -> usize
 }
 
 // The length of the whole datagram.
-pub(crate) fn total_of(size: WordField, n: u16) -> u16
+fn total_of(size: WordField, n: u16) -> u16
     ensures { λ r. ⌜ r ≡ totalOf size n ⌝ }
 {
     match size {
@@ -361,11 +361,7 @@ fn sum_for(w: Way, sum: WordField) -> UdpSum
     ensures { λ r. ⌜ r ≡ sumFor (w .routed) (w .ip) (w .at) sum ⌝ }
 {
     if w.routed {
-        return UdpSum {
-            kind: 0,
-            ip: 0,
-            udp: 0,
-        };
+        return UdpSum::NONE;
     }
     if is_elided(sum) {
         return UdpSum {
@@ -641,12 +637,13 @@ fn put_headers(
             }
         }
     }
+    // Not reached: the ninth header was refused before.
     let last = Last::Refused(Refusal::Unsupported);
     let reached = Reached { way, last };
     Laid { reached, count }
 }
 
-// What stands behind all other headers.
+// Puts what stands behind the last layer.
 fn put_last(frame: &[u8], r: Reached, size: WordField, out: &mut [u8]) -> Walked
     requires { ⌜ Room (r .way) (r .last) (now frame) × (NotInner (r .last) × (length (now frame) ≤ 127)) ⌝ }
     ensures { λ z. ⌜ ((ctx : List ℕ) → Ends z (r .way) size (ahead ctx r (now (frame .entry))) (now (out .entry))
@@ -657,12 +654,14 @@ fn put_last(frame: &[u8], r: Reached, size: WordField, out: &mut [u8]) -> Walked
     match last {
         Last::Rest(c) => end_rest(frame, c, way, size, out),
         Last::Udp(c, h) => end_udp(frame, c, h, way, size, out),
+        // Not reached: there one more layer is put.
         Last::Inner(_) => Walked::Refused(Refusal::Unsupported),
         Last::Refused(e) => Walked::Refused(e),
     }
 }
 
-// The payload lengths of the IPv6 headers at so many places: all that follows, in a datagram of a length.
+// Puts the payload lengths of the IPv6 headers at the first `count` places: all that follows each, in a datagram of
+// `total` bytes.
 fn put_lengths(places: &[u16], count: usize, total: u16, out: &mut [u8])
     requires { ⌜ (count ≤ length (now places)) × ((i : ℕ) → i < count → getD (now places) i 0 ≤ 447) ⌝ }
     ensures { λ _. ⌜ now (out .exit) ≡ patches total (take count (now (places .entry))) (now (out .entry)) ⌝ }
@@ -675,7 +674,8 @@ fn put_lengths(places: &[u16], count: usize, total: u16, out: &mut [u8])
     }
 }
 
-// The datagram that the frame stands for, from its outer IPv6 header on, or its first part.
+// Puts the datagram that the frame stands for, or its first part, with 0 for an elided checksum. Where it is refused
+// some headers may stand in the room.
 pub(crate) fn walk(
     frame: &[u8],
     c: Cursor,

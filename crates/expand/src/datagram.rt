@@ -34,7 +34,7 @@ fn put_elided(buf: &mut [u8], size: WordField, n: usize, m: UdpSum)
     }
 }
 
-// The headers of a frame in full, each written as it is read, and the rest.
+// As `fill`, but that a refusal leaves in the room what was written before it.
 fn fill_from(
     frame: &[u8],
     c: Cursor,
@@ -61,8 +61,11 @@ fn fill_from(
     }
 }
 
-// Writes the datagram that the frame stands for into the front of a room of its own, which a refusal leaves all zeros:
-// headers are written as they are read, before it is known whether what follows is refused.
+// Writes the datagram that the frame stands for into the front of a room, which a refusal leaves all zeros: headers are
+// written as they are read, before it is known whether what follows is refused.
+//
+// The compressed header stands at the place c of the frame; `size` is the size of the whole datagram where the frame is
+// its first part. The link-layer addresses are those of the frame; the contexts are flat bytes, 8 for each identifier.
 pub fn fill(
     frame: &[u8],
     c: Cursor,
@@ -85,7 +88,8 @@ pub fn fill(
     }
 }
 
-// Writes the datagram that the frame stands for into the front of the output, or refuses and writes nothing.
+// Writes the datagram that the frame stands for into the front of the output, or refuses and writes nothing: it is
+// filled into a room of the call's own, and copied.
 pub fn expand(
     frame: &[u8],
     c: Cursor,
@@ -112,9 +116,7 @@ pub fn expand(
     }
 }
 
-// What `expand` would answer in room enough. The compressed header stands at the place c of the frame; `size` is the
-// size of the whole datagram where the frame is its first part. The link-layer addresses are those of the frame; the
-// contexts are flat bytes, 8 for each identifier.
+// What `expand` would answer in room enough.
 pub fn measure(
     frame: &[u8],
     c: Cursor,

@@ -3,7 +3,7 @@ ghost use mathlib.Core.Path.{_≡_};
 ghost use Prim.Native.Nat.{_<_, _≤_, _+_, _-_};
 ghost use lib.ListN.{length, take, drop};
 ghost use Rattle.octets.specs.Write.{put};
-ghost use Rattle.expand.specs.Full.{byteOr, wordOr, labelOr, classOf, firstWord, bothBytes, keptFront, keptFull};
+ghost use Rattle.expand.specs.Full.{byteOr, wordOr, labelOr, firstWord, bothBytes, keptFront, keptFull};
 ghost use Rattle.expand.specs.Full.{udpFull};
 ghost use Rattle.expand.specs.Chain.{pad, fullSize, extFull};
 use super::copy::put_slice;
@@ -20,8 +20,8 @@ use octets::write::put_byte;
 use sixlowpan::NextHeader;
 use sixlowpan::nhc::UdpNhcRepr;
 
-// What is kept of an IPv6 header: what is written of it, which its payload length is left out of; its next header field,
-// and the place behind it.
+// What is kept of an IPv6 header: what is written of it, but for its payload length; its next header field, and the
+// place behind it.
 pub struct Kept {
     pub src: Ipv6Addr,
     pub dst: Ipv6Addr,

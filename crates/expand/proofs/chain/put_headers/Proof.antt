@@ -1,7 +1,7 @@
 -- Layer by layer; where something else than an IPv6 header stands behind one, all headers but UDP's are put.
 use Prim.Native.Nat.{ℕ, _+_, _-_, _*_, _≤_, _<_}
 use native.Mathlib.Omega.{arith}
-use mathlib.Core.Path.{_≡_, refl, sym, ap, _∙_}
+use mathlib.Core.Path.{_≡_, refl, sym, _∙_}
 use lib.ListN.{length, getD, take, length-set}
 use denote.Ref.{now}
 use borrow.Author.Needs.{needs}

@@ -1,11 +1,6 @@
 use native.Mathlib.Omega.{arith}
-use mathlib.Core.Path.{ap, _∙_}
-use lib.ListN.{take, drop}
-use denote.Ref.{now}
 use borrow.Author.Needs.{needs}
 use Rattle.octets.specs.Write.{put}
-use Rattle.expand.specs.Chain.{extFull}
-use Rattle.expand.specs.Walk.{extBytes}
 use Rattle.expand.proofs.chain.put_read.Statement.{statement}
 use Rattle.expand.proofs.chain.put_read.Tie as tie
 

@@ -1,4 +1,4 @@
-use Rattle.octets.proofs.Steps.{steps, flags}
+use Rattle.octets.proofs.Steps.{steps}
 use Rattle.sixlowpan.proofs.NhcSteps.{nhc-steps}
 use Rattle.expand.specs.Chain.{extBody}
 use borrow.Author.Needs.{needs}

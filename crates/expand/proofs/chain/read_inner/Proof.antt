@@ -1,5 +1,4 @@
 use Rattle.octets.proofs.Steps.{steps, flags}
-use Rattle.sixlowpan.proofs.NhcSteps.{nhc-steps}
 use Rattle.expand.specs.Chain.{innerByte}
 use borrow.Author.Needs.{needs}
 use Rattle.expand.proofs.chain.read_inner.Statement.{statement}

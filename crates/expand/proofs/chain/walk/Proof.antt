@@ -1,5 +1,4 @@
 use native.Mathlib.Omega.{arith}
-use mathlib.Core.Path.{refl}
 use lib.ListN.{length-replicate}
 use Prim.Native.Nat.{ℕ}
 use denote.Ref.{now}

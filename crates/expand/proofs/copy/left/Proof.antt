@@ -1,6 +1,5 @@
 use borrow.Author.Needs.{needs}
 use native.Mathlib.Omega.{arith}
-use denote.Ref.{now}
 use lib.ListN.{length-drop}
 use Rattle.expand.proofs.copy.left.Statement.{statement}
 use Rattle.expand.proofs.copy.left.Tie as tie
