@@ -307,6 +307,10 @@ pub from-start : (ctx s l : List ℕ) (ls ld : AddressField) (at : ℕ) → Onwa
 unfolding chained
 from-start ctx s l ls ld at = onward-same start _ _ l refl
 
+pub from-outer : (ctx s l o : List ℕ) (ls ld : AddressField) (at : ℕ) (size : WordField) (y : Walked) → Ends y start size (headerThen ctx ls ld (chain 7 ctx) s at) l o → Ends y start size (chained ctx ls ld s at) l o
+unfolding chained
+from-outer ctx s l o ls ld at size y E = E
+
 -- an IPv6 header is reached: the next layer
 pub inner-on : {ps l o : List ℕ} {w v : Way} {m : Read Chain} {d : Cursor} {ll : LinkAddresses} (ctx s : List ℕ) (r : Reached) → Onward ps w m l (r .way) (ahead ctx r s) o → r .last ≡ Last.Inner d → v ≡ fewer (r .way) → ll ≡ record { src = identified (r .way .src); dst = identified (r .way .dst) }
     → Onward ps w m l v (headerThen ctx (ll .src) (ll .dst) (chain (v .left) ctx) s (d .at)) o
@@ -405,18 +409,33 @@ module _ (size : WordField) (w : Way) (h : UdpNhcRepr) (s l : List ℕ) (at k : 
   unfolding udpEnd
   ends-udp-no e g = rw (sym p ∙ f) (record { answer = ends-no size w l (udpThen h (drop at s)) (w .at + 8 + k) udp-size y q e g; bytes = tt })
 
--- ---- from the start to the end
-module _ (ctx s places l o : List ℕ) (size : WordField) (m : Read Chain) (r : Laid) (L : Lays ctx r m s places l o) (same : length o ≡ length l) (y : Walked) (p : List ℕ) (E : Ends y (r .reached .way) size (ahead ctx (r .reached) s) o p) where
-  walked : ofWalked y ≡ endOf size start (length l) m
-  walked = E .answer ∙ ap (λ n. endOf size (r .reached .way) n (ahead ctx (r .reached) s)) same ∙ sym (L .reaches .onward .answer size (length l))
+-- ---- from where the walk has come to, to the end
+module _ (size : WordField) (ps l o : List ℕ) (w v : Way) (m k : Read Chain) (A : Onward ps w m l v k o) (same : length o ≡ length l) (y : Walked) (p : List ℕ) (E : Ends y v size k o p) where
+  walked : ofWalked y ≡ endOf size w (length l) m
+  walked = E .answer ∙ ap (λ n. endOf size v n k) same ∙ sym (A .answer size (length l))
 
-  pub walked-no : (e : Refusal) (q : List ℕ) → y ≡ Walked.Refused e → Ends (Walked.Refused e) start size m l q
+  pub walked-no : (e : Refusal) (q : List ℕ) → y ≡ Walked.Refused e → Ends (Walked.Refused e) w size m l q
   walked-no e q g = record { answer = ap ofWalked (sym g) ∙ walked; bytes = tt }
 
-  pub walked-on : (len t : ℕ) (u : UdpSum) (q : List ℕ) → y ≡ Walked.End len u → t ≡ totalOf size len → q ≡ patches t (take (r .count) places) p → Ends (Walked.End len u) start size m l q
+  pub walked-on : (len t : ℕ) (u : UdpSum) (q : List ℕ) → y ≡ Walked.End len u → t ≡ totalOf size len → q ≡ patches t ps p → Ends (Walked.End len u) w size m l q
   walked-on len t u q g e b =
-      let a : p ≡ putAhead (totalOf size len) (r .reached .way) (ahead ctx (r .reached) s) o = subst (λ z. PutsAhead z size (r .reached .way) (ahead ctx (r .reached) s) o p) g (E .bytes) in
+      let a : p ≡ putAhead (totalOf size len) v k o = subst (λ z. PutsAhead z size v k o p) g (E .bytes) in
       record {
         answer = ap ofWalked (sym g) ∙ walked;
-        bytes = b ∙ ap (λ z. patches z (take (r .count) places) p) e ∙ ap (patches (totalOf size len) (take (r .count) places)) a ∙ sym (L .reaches .onward .bytes (totalOf size len));
+        bytes = b ∙ ap (λ z. patches z ps p) e ∙ ap (patches (totalOf size len) ps) a ∙ sym (A .bytes (totalOf size len));
       }
+
+-- where no payload length is still to be put
+pub walked-so : (size : WordField) (l o : List ℕ) (w v : Way) (m k : Read Chain) → Onward [] w m l v k o → length o ≡ length l → (y : Walked) (p : List ℕ) → Ends y v size k o p → Ends y w size m l p
+unfolding patches
+walked-so size l o w v m k A same (Walked.End len u) p E = walked-on size [] l o w v m k A same (Walked.End len u) p E len (totalOf size len) u p refl refl refl
+walked-so size l o w v m k A same (Walked.Refused e) p E = walked-no size [] l o w v m k A same (Walked.Refused e) p E e p refl
+
+-- and where what is ahead is refused
+pub walked-refused : (size : WordField) (ps l o p : List ℕ) (w v : Way) (m : Read Chain) (e : Refusal) → Onward ps w m l v (refused (numberOf e)) o → Ends (Walked.Refused e) w size m l p
+walked-refused size ps l o p w v m e A = record { answer = sym (A .answer size (length l)); bytes = tt }
+
+-- one payload length
+pub patch-one : (t o x : ℕ) (l q : List ℕ) → x ≡ t - (o + 40) → q ≡ put (o + 4) (be16Bytes x) l → q ≡ patches t (o ∷ []) l
+unfolding patches
+patch-one t o x l q a b = b ∙ ap (λ z. put (o + 4) (be16Bytes z) l) a

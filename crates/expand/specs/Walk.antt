@@ -98,6 +98,13 @@ Room w (Last.Udp c h) s = w .at ≤ 447
 Room w (Last.Inner c) s = (w .at + 40 * w .left + (length s - c .at) ≤ 447) × (1 ≤ w .left)
 Room w (Last.Refused e) s = Unit {0}
 
+-- an IPv6 header stands further on in the frame s than the place n
+abbrev pub Beyond : Last → ℕ → List ℕ → Type 0
+Beyond (Last.Rest c) n s = Unit {0}
+Beyond (Last.Udp c h) n s = Unit {0}
+Beyond (Last.Inner c) n s = (n < c .at) × (c .at ≤ length s)
+Beyond (Last.Refused e) n s = Unit {0}
+
 abbrev pub NotInner : Last → Type 0
 NotInner (Last.Rest c) = Unit {0}
 NotInner (Last.Udp c h) = Unit {0}

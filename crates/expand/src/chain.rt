@@ -15,7 +15,7 @@ ghost use Rattle.expand.specs.Chain.{innerByte, udpStep, link, headerThe
 ghost use Rattle.expand.specs.Chain.{nextNumber, sumFor, extFull, rest, totalOf, totalIn};
 ghost use Rattle.expand.specs.Walk.{ofLink, ofKept, kept, ofTotal, extBytes, isCompressed, identified, around};
 ghost use Rattle.expand.specs.Walk.{start, passed, entered, fewer, ahead, Room, NotInner, patches};
-ghost use Rattle.expand.specs.Walk.{Ends, Reaches, Lays};
+ghost use Rattle.expand.specs.Walk.{Ends, Reaches, Beyond, Lays};
 use super::checksum::UdpSum;
 use super::copy::left;
 use super::copy::put_slice;
@@ -282,7 +282,7 @@ fn inside(i: u64) -> AddressField
 }
 
 // What a length field says: all that follows.
-fn less(total: u16, at: u16) -> u16
+pub(crate) fn less(total: u16, at: u16) -> u16
     ensures { λ r. ⌜ r ≡ total - at ⌝ }
 {
     if total < at { 0 } else { total - at }
@@ -305,7 +305,7 @@ fn span(from: usize, to: usize) -> usize
 }
 
 // The length of the whole datagram.
-fn total_of(size: WordField, n: u16) -> u16
+pub(crate) fn total_of(size: WordField, n: u16) -> u16
     ensures { λ r. ⌜ r ≡ totalOf size n ⌝ }
 {
     match size {
@@ -329,7 +329,7 @@ fn total_in(size: WordField, n: u16, room: usize) -> TotalAnswer
 }
 
 // The payload, to the end of the frame.
-fn end_rest(frame: &[u8], c: Cursor, w: Way, size: WordField, out: &mut [u8]) -> Walked
+pub(crate) fn end_rest(frame: &[u8], c: Cursor, w: Way, size: WordField, out: &mut [u8]) -> Walked
     requires { ⌜ (w .at ≤ 447) × (length (now frame) ≤ 127) ⌝ }
     ensures { λ r. ⌜ Ends r w size (got (rest 0 (drop (c .at) (now (frame .entry)))) (c .at)) (now (out .entry))
         (now (out .exit)) ⌝ }
@@ -378,7 +378,7 @@ fn sum_for(w: Way, sum: WordField) -> UdpSum
 }
 
 // A UDP header and its data, to the end of the frame.
-fn end_udp(
+pub(crate) fn end_udp(
     frame: &[u8],
     c: Cursor,
     h: UdpNhcRepr,
@@ -409,7 +409,7 @@ fn end_udp(
 
 impl Way {
     // In front of the outer IPv6 header, behind which seven more may come.
-    const START: Way = Way {
+    pub(crate) const START: Way = Way {
         src: 0,
         dst: 0,
         ip: 0,
@@ -431,7 +431,7 @@ impl Way {
     }
 
     // Inside an IPv6 header, by the identifiers of its addresses.
-    fn within(self, src: u64, dst: u64) -> Way
+    pub(crate) fn within(self, src: u64, dst: u64) -> Way
         requires { ⌜ self .at + 40 ≤ 65535 ⌝ }
         ensures { λ r. ⌜ r ≡ entered src dst self ⌝ }
     {
@@ -446,7 +446,7 @@ impl Way {
     }
 
     // With one header fewer to come.
-    fn fewer(self) -> Way
+    pub(crate) fn fewer(self) -> Way
         requires { ⌜ 1 ≤ self .left ⌝ }
         ensures { λ r. ⌜ r ≡ fewer self ⌝ }
     {
@@ -467,7 +467,7 @@ fn is_routed(number: u8, routed: bool) -> bool
 }
 
 // Reads an IPv6 header.
-fn read_kept(frame: &[u8], c: Cursor, ll: LinkAddresses, contexts: &[u8]) -> KeptRead
+pub(crate) fn read_kept(frame: &[u8], c: Cursor, ll: LinkAddresses, contexts: &[u8]) -> KeptRead
     ensures { λ r. ⌜ ofKept r ≡ kept (now (contexts .entry)) (ll .src) (ll .dst) (now (frame .entry)) (c .at) ⌝ }
 {
     let src = ll.src;
@@ -516,7 +516,7 @@ fn is_compressed(next: NextHeader) -> bool
 }
 
 // Puts the extension headers that stand behind a next header field.
-fn put_extensions(
+pub(crate) fn put_extensions(
     frame: &[u8],
     first: NextHeader,
     from: Cursor,
@@ -525,7 +525,8 @@ fn put_extensions(
 ) -> Reached
     requires { ⌜ (start .at + 40 * start .left + (length (now frame) - from .at) ≤ 447) × (length (now frame) ≤ 127) ⌝ }
     ensures { λ r. ⌜ ((ctx : List ℕ) → Reaches ctx r [] start (behindNext first (chain (start .left) ctx (around start))
-        (now (frame .entry)) (from .at)) (now (frame .entry)) (now (out .entry)) (now (out .exit))) ⌝ }
+        (now (frame .entry)) (from .at)) (now (frame .entry)) (now (out .entry)) (now (out .exit)))
+        × Beyond (r .last) (from .at) (now (frame .entry)) ⌝ }
 {
     let mut way = start;
     let mut next = first;
@@ -588,7 +589,7 @@ fn put_layer(
 }
 
 // The link-layer addresses that stand for those of the IPv6 header just outside.
-fn links_inside(w: Way) -> LinkAddresses
+pub(crate) fn links_inside(w: Way) -> LinkAddresses
     ensures { λ r. ⌜ r ≡ record { src = identified (w .src); dst = identified (w .dst) } ⌝ }
 {
     let src = inside(w.src);

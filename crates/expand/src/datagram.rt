@@ -3,11 +3,14 @@ ghost use mathlib.Core.Path.{_≡_};
 ghost use Rattle.expand.specs.Expand.{ofExpanded, finishedIn, expansion, measured, answered, written};
 ghost use Rattle.expand.specs.Expand.{Fills, filled};
 use super::chain::Walked;
+use super::chain::Way;
 use super::chain::walk;
 use super::checksum::UdpSum;
 use super::checksum::put_checksum;
 use super::copy::clear;
 use super::copy::put_slice;
+use super::nested::Inner;
+use super::nested::header;
 use iphc::LinkAddresses;
 use octets::cursor::Cursor;
 use octets::field::WordField;
@@ -88,8 +91,35 @@ pub fn fill(
     }
 }
 
+// As `fill_from`, by the two functions that call each other.
+fn expand_from(
+    frame: &[u8],
+    c: Cursor,
+    ll: LinkAddresses,
+    contexts: &[u8],
+    size: WordField,
+    room: &mut [u8],
+) -> Expanded
+    ensures { λ r. ⌜ (ofExpanded r ≡ answered (expansion (now (contexts .entry)) (ll .src) (ll .dst) size
+        (now (frame .entry)) (c .at)) (now (room .entry)))
+        × Fills r (expansion (now (contexts .entry)) (ll .src) (ll .dst) size (now (frame .entry)) (c .at))
+        (now (room .entry)) (now (room .exit)) ⌝ }
+{
+    if 127 < frame.len() {
+        return Expanded::Refused(Refusal::BadLength);
+    }
+    match header(frame, Inner { at: c, ll }, contexts, Way::START, size, room) {
+        Walked::End { len, sum } => {
+            let len = len as usize;
+            put_elided(room, size, len, sum);
+            Expanded::Datagram { len, sum }
+        }
+        Walked::Refused(e) => Expanded::Refused(e),
+    }
+}
+
 // Writes the datagram that the frame stands for into the front of the output, or refuses and writes nothing: it is
-// filled into a room of the call's own, and copied.
+// put into a room of the call's own, and copied.
 pub fn expand(
     frame: &[u8],
     c: Cursor,
@@ -104,7 +134,7 @@ pub fn expand(
         (c .at)) (now (out .entry))) ⌝ }
 {
     let mut room = [0u8; LONGEST];
-    match fill(frame, c, ll, contexts, size, &mut room) {
+    match expand_from(frame, c, ll, contexts, size, &mut room) {
         Expanded::Datagram { len, sum } => {
             if out.len() < len {
                 return Expanded::Refused(Refusal::NoRoom);
@@ -128,5 +158,5 @@ pub fn measure(
         (now (frame .entry)) (c .at)) ⌝ }
 {
     let mut room = [0u8; LONGEST];
-    fill(frame, c, ll, contexts, size, &mut room)
+    expand_from(frame, c, ll, contexts, size, &mut room)
 }

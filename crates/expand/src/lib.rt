@@ -2,8 +2,8 @@
 //
 // - `datagram`: `expand` writes the datagram that a frame stands for, or the first part of one, into lent bytes, and
 //   `measure` answers its length beforehand; `fill` writes it into a room that a refusal clears.
-// - `chain`: the compressed headers behind an IPv6 header, extension headers and IPv6 headers among them, read and put
-//   in full, one after the other. `ip`: the full headers, put.
+// - `nested`: the compressed headers, read and put in full, by two functions that call each other, for `expand` and
+//   `measure`. `chain`: each header read, and the same in loops, for `fill`. `ip`: the full headers, put.
 // - `checksum`: the UDP checksum, computed and put into its place. `copy`: bytes of a slice put into lent bytes, and
 //   lent bytes cleared.
 //
@@ -14,6 +14,7 @@ pub mod checksum;
 pub mod copy;
 pub mod datagram;
 mod ip;
+mod nested;
 
 pub use datagram::Expanded;
 pub use datagram::LONGEST;

@@ -32,7 +32,7 @@ same-length : tie.Need-same-length
 same-length c = search needs
 
 returns : tie.Need-returns
-returns c = let q = c .before .before .put-extensions .ensures (now (c .before .before .before .before .before .before .before .before .before .before .before .before .before .before .before .before .before .before .before .before .args .contexts)) in
+returns c = let q = c .before .before .put-extensions .ensures .0 (now (c .before .before .before .before .before .before .before .before .before .before .before .before .before .before .before .before .before .before .before .before .args .contexts)) in
     record { onward = onward-then (header-on (now (c .before .before .before .before .before .before .before .before .before .before .before .before .before .before .before .before .before .before .before .before .args .contexts)) (now (c .before .before .before .before .before .before .before .before .before .before .before .before .before .before .before .before .before .before .before .before .args .frame)) (c .before .before .before .before .before .before .before .before .before .before .before .before .before .before .before .before .before .before .before .before .args .ll .src) (c .before .before .before .before .before .before .before .before .before .before .before .before .before .before .before .before .before .before .before .before .args .ll .dst) (c .before .before .before .before .before .before .before .before .before .before .before .before .before .before .before .before .before .before .before .before .args .c .at) _ (c .before .before .before .before .before .before .before .before .before .before .before .before .before .before .before .before .read-kept .ensures) (c .before .before .before .before .before .before .before .before .before .before .before .before .before .before .before .before .before .before .before .before .args .w) (now (c .before .before .before .before .before .before .before .before .before .before .before .before .before .before .before .before .before .before .before .before .args .out)) _ _ _ (c .before .before .before .before .before .before .before .before .before .before .before .before .before .before .ip .given .1) (c .before .before .before .before .within .ensures) (c .before .before .before .before .before .before .before .put-ipv6 .ensures)) (q .onward); room = q .room; left = omega (arith, q .left, ap (λ z. z .left) (c .before .before .before .before .within .ensures)) }
 
 returns-2 : tie.Need-returns-2

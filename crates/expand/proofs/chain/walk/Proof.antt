@@ -35,13 +35,13 @@ same-length : tie.Need-same-length
 same-length c = search needs
 
 returns : tie.Need-returns
-returns c = walked-on (now (c .before .before .before .before .before .before .before .before .before .before .before .before .before .before .before .before .before .before .before .before .before .before .before .args .contexts)) (now (c .before .before .before .before .before .before .before .before .before .before .before .before .before .before .before .before .before .before .before .before .before .before .before .args .frame)) _ (now (c .before .before .before .before .before .before .before .before .before .before .before .before .before .before .before .before .before .before .before .before .before .before .before .args .out)) _ (c .before .before .before .before .before .before .before .before .before .before .before .before .before .before .before .before .before .before .before .before .before .before .before .args .size) _ _ (c .before .before .before .before .before .before .before .before .before .before .before .before .before .before .before .before .before .put-headers .ensures) (omega arith) _ _ (c .before .before .before .before .before .before .before .before .before .before .before .put-last .ensures (now (c .before .before .before .before .before .before .before .before .before .before .before .before .before .before .before .before .before .before .before .before .before .before .before .args .contexts))) _ _ _ _ (c .before .before .before .before .before .before .before .len .given .1) (c .before .before .before .before .total-of .ensures) (c .before .before .put-lengths .ensures)
+returns c = walked-on (c .before .before .before .before .before .before .before .before .before .before .before .before .before .before .before .before .before .before .before .before .before .before .before .args .size) _ (now (c .before .before .before .before .before .before .before .before .before .before .before .before .before .before .before .before .before .before .before .before .before .before .before .args .out)) _ _ _ _ _ (c .before .before .before .before .before .before .before .before .before .before .before .before .before .before .before .before .before .put-headers .ensures .reaches .onward) (omega arith) _ _ (c .before .before .before .before .before .before .before .before .before .before .before .put-last .ensures (now (c .before .before .before .before .before .before .before .before .before .before .before .before .before .before .before .before .before .before .before .before .before .before .before .args .contexts))) _ _ _ _ (c .before .before .before .before .before .before .before .len .given .1) (c .before .before .before .before .total-of .ensures) (c .before .before .put-lengths .ensures)
 
 same-length-2 : tie.Need-same-length-2
 same-length-2 c = search needs
 
 returns-2 : tie.Need-returns-2
-returns-2 c = walked-no (now (c .before .before .before .before .before .before .before .before .before .before .before .before .before .before .before .before .before .args .contexts)) (now (c .before .before .before .before .before .before .before .before .before .before .before .before .before .before .before .before .before .args .frame)) _ (now (c .before .before .before .before .before .before .before .before .before .before .before .before .before .before .before .before .before .args .out)) _ (c .before .before .before .before .before .before .before .before .before .before .before .before .before .before .before .before .before .args .size) _ _ (c .before .before .before .before .before .before .before .before .before .before .before .put-headers .ensures) (omega arith) _ _ (c .before .before .before .before .before .put-last .ensures (now (c .before .before .before .before .before .before .before .before .before .before .before .before .before .before .before .before .before .args .contexts))) _ _ (c .before .e .given .1)
+returns-2 c = walked-no (c .before .before .before .before .before .before .before .before .before .before .before .before .before .before .before .before .before .args .size) _ (now (c .before .before .before .before .before .before .before .before .before .before .before .before .before .before .before .before .before .args .out)) _ _ _ _ _ (c .before .before .before .before .before .before .before .before .before .before .before .put-headers .ensures .reaches .onward) (omega arith) _ _ (c .before .before .before .before .before .put-last .ensures (now (c .before .before .before .before .before .before .before .before .before .before .before .before .before .before .before .before .before .args .contexts))) _ _ (c .before .e .given .1)
 
 pub walk-spec : {M : Type 1} → statement M
 walk-spec =
