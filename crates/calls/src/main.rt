@@ -4,6 +4,7 @@
 //
 // - `commands`: what the lines `gateways` and `call` do. `fields`: addresses in a line. `answer`: the parts of an
 //   answer.
+#![tactic(auto)]
 mod answer;
 mod commands;
 mod fields;

@@ -11,6 +11,7 @@
 // most three frames (specs/Made.antt) is good, and gives back these frames and times (Made); every good block is what a
 // writer makes of its own frames (Exact). No public function asks anything of its caller, and each contract fixes the
 // answer (Unique).
+#![tactic(auto)]
 pub mod block;
 pub mod fcs;
 mod table;

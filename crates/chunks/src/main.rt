@@ -4,6 +4,7 @@
 //
 // - `commands`: what the lines `chunk`, `end` and `new` do. `answer`: the parts of an answer. `input`: lines out of
 //   what is read.
+#![tactic(auto)]
 mod answer;
 mod commands;
 mod input;

@@ -4,6 +4,7 @@
 // contracts are those of `receiver::receive` and `iphc::Repr::read` on the flat bytes that the slice means (`listed` of
 // specs/Slice.antt: 8 each, in order). Underneath, `with_context` picks one struct from the slice and calls the covered
 // function on flat values.
+#![tactic(auto)]
 ghost use Rattle.std.specs.Prelude.{◌≡◌, ◌≤◌, min, replicate};
 ghost use Rattle.iphc.specs.Iphc.{iphc};
 ghost use Rattle.iphc.specs.Answers.{of_parsed};

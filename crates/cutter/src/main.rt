@@ -4,6 +4,7 @@
 //
 // - `commands`: what the lines `cut` and `frames` do.
 // - `fields`: what they say beside the datagram. `room`: what a frame is written into.
+#![tactic(auto)]
 mod commands;
 mod fields;
 mod room;

@@ -5,6 +5,7 @@
 // - `fields`, `head` and `piece` are its parts: the datagram's fields, the headers, and where it is cut.
 //
 // Each answer, and the lent bytes after it, are those of specs/Cut.antt's `cut`, on every input.
+#![tactic(auto)]
 mod fields;
 mod head;
 pub mod link;

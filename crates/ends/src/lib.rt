@@ -4,6 +4,7 @@
 //   new file beside the second, named as that with `.part` behind it. Anything else is answered by a usage line.
 // - `close` ends it. A file that is whole takes the second name; one that is not is removed, so that no half file is
 //   left.
+#![tactic(auto)]
 ghost use Rattle.std.specs.Prelude.{◌≡◌, length};
 ghost use Rattle.libc.specs.Io.{Status};
 

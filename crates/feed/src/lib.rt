@@ -11,6 +11,7 @@
 // that the last readers agree; proofs/States.antt that a reader has one value for each state, and that a refused call
 // changes nothing; proofs/Refused.antt that a run with refused calls is the run without them. No public function
 // asks anything of its caller.
+#![tactic(auto)]
 pub mod reader;
 
 pub use reader::{Fed, Found, Reader, Status, chunk, end};

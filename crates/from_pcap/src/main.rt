@@ -4,6 +4,7 @@
 // What the next frames come to is the library's (`pcap::coming::one_block`); here pcap is read, up to 64 KiB at a time,
 // and the blocks are written. Until the input has ended a block is made only of 429 bytes or more, which hold three
 // frames.
+#![tactic(auto)]
 use octets::cursor::{Cursor, Skipped};
 use octets::write::Written;
 use pcap::coming::{FromPcap, one_block};

@@ -4,6 +4,7 @@
 //
 // What the blocks say is the library's (`listen::hear_all`); here they are read, up to 128 at a time, and their lines
 // written. No line is longer than 46 bytes, so that the text has room for all lines of one read.
+#![tactic(auto)]
 use listen::{Ear, Heard, hear_all, put_end};
 use text::line;
 

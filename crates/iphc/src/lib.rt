@@ -11,6 +11,7 @@
 // read is the sum of the widths that the first two bytes announce, and within the bytes (proofs/Lengths.antt). No bytes
 // that read as the same header are fewer than those that are written, but for one exception (specs/Shortest.antt,
 // proofs/Shortest.antt).
+#![tactic(auto)]
 pub mod context;
 mod emit;
 mod form;

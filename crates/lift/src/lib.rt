@@ -6,6 +6,7 @@
 // themselves are `words::begin` and `receiver::receive`, and here their answers become numbers.
 //
 // - `send`: what we send, `lift_cut` and `lift_frames`.
+#![tactic(auto)]
 pub mod send;
 
 ghost use Rattle.std.specs.Prelude.{◌≡◌, ◌<◌, ◌≤◌};

@@ -8,6 +8,7 @@
 // specs/Lines.antt has the text of the lines, and specs/Heard.antt what a block and a whole capture say. The answer,
 // the lent memory, the output and the text of `hear` and `hear_all` are, on every input, those of `hear_block` and
 // `hear_all`. No public function asks anything of its caller.
+#![tactic(auto)]
 pub mod ear;
 pub mod line;
 

@@ -4,6 +4,7 @@
 // that the words stand for (`unpack`). `pack` makes words of marks again, and proofs/Words.antt shows that the two undo
 // each other, so that a fact on the marks fixes the words. A unit from 256 on has no mark, and marking it changes
 // nothing.
+#![tactic(auto)]
 ghost use Rattle.std.specs.Prelude.{true, false, ◌≡◌, ◌-◌, ◌^◌, ◌<◌, ◌≤◌, get_or};
 ghost use Rattle.marks.specs.Marks.{has_in, fill, bits, unpack, pack, within};
 

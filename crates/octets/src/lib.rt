@@ -7,6 +7,8 @@
 // - `field`: a field that a header may lack. `ipv6`: an IPv6 address as two numbers.
 //
 // No function asks anything of its caller, and each contract fixes the answer and the lent bytes.
+#![tactic(auto)]
+
 pub mod cursor;
 pub mod field;
 pub mod ipv6;

@@ -9,6 +9,7 @@
 // Both moves are over one list of timed frames (specs/Frames.antt); `to_pcap` and `from_pcap` are specs/Moves.antt's
 // `to_pcap` and `from_pcap` on every slice. proofs/Moves.antt shows what they keep, and proofs/Streaming.antt that a
 // block at a time (specs/Streaming.antt) is the whole move. No public function asks anything of its caller.
+#![tactic(auto)]
 pub mod coming;
 mod fill;
 pub mod going;

@@ -10,3 +10,4 @@
 //   specs/Runs.antt, proofs/Runs.antt. That is proved of any engine that meets the laws of proofs/Engine.antt, which
 //   know neither frames nor marks. The slot table is one: proofs/Instance.antt, by proofs/Filling.antt on one slot and
 //   the laws of reassembly/proofs.
+#![tactic(auto)]

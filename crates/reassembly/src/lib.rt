@@ -10,6 +10,7 @@
 // calls that no gateway holds over three slots, that the free slots suffice for the gateways that hold none, that
 // such a gateway can always open one, that openings less endings, plus free slots, is 8, and that each byte handed
 // out from a slot, a computed checksum aside, is that of a part taken under its key since its opening.
+#![tactic(auto)]
 pub mod part;
 pub mod slot;
 pub mod table;

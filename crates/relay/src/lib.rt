@@ -10,6 +10,7 @@
 // back exactly where no further header of the two follows (Trips), how far the headers go and why they are refused
 // (Spans), and that no address that was read is absent (Parts). No function asks anything of its caller, and each
 // contract fixes the answer and the lent bytes (Unique).
+#![tactic(auto)]
 pub mod broadcast;
 pub mod headers;
 pub mod mesh;

@@ -4,6 +4,7 @@
 //
 // - `commands`: the commands by name. `mac`, `fragment`, `nhc`, `compressed`, `relays`: what each does, by header.
 // - `fields`: the fields of a line. `answer`: the parts of an answer. `room`: what a writer writes into.
+#![tactic(auto)]
 mod answer;
 mod commands;
 mod compressed;

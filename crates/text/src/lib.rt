@@ -6,6 +6,7 @@
 //   all, and the place stays: nothing is ever cut in the middle.
 //
 // No public function asks anything of its caller, and each contract fixes the answer and the lent bytes.
+#![tactic(auto)]
 pub mod field;
 pub mod line;
 pub mod print;

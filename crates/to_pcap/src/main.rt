@@ -3,6 +3,7 @@
 //
 // What a block comes to is the library's (`pcap::going::one_block`); here blocks are read, up to 128 at a time, and
 // what they come to is written. A block comes to at most 429 bytes, so that the room holds what one read brings.
+#![tactic(auto)]
 use octets::write::Written;
 use pcap::going::{ToPcap, file_header, one_block};
 use text::field::{part, upto};
