@@ -15,7 +15,7 @@ const NO_GATEWAY: Gateway = Gateway {
 
 // The table in its numbers (crate `words`), once a list of gateways was taken, and the place in the output behind the
 // last answer.
-#[derive(Drop)]
+#[derive(Clone, Copy)]
 pub struct Session {
     pub table: [u64; WORDS],
     pub made: bool,
@@ -24,7 +24,7 @@ pub struct Session {
 
 // A call as its line says it, where it says one. The frame stands at the front of the scratch room, and the contexts
 // behind it.
-#[derive(Drop)]
+#[derive(Clone, Copy)]
 struct Request {
     time: u64,
     frame: usize,

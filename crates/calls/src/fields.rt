@@ -4,13 +4,13 @@ use reassembly::Gateway;
 use text::field::{NONE, behind, number, upto};
 use text::line::find;
 
-#[derive(Drop)]
+#[derive(Clone, Copy)]
 pub struct LinkText {
     pub value: Address,
     pub next: usize,
 }
 
-#[derive(Drop)]
+#[derive(Clone, Copy)]
 pub struct GatewayText {
     pub value: Gateway,
     pub next: usize,

@@ -17,7 +17,7 @@ const LONGEST: usize = 8192;
 
 // The input that is read and not answered yet stands from `start` to `have`; no line ends before `from`. The beginning
 // of a line that was too long is gone and answered: the rest of it is to be skipped.
-#[derive(Drop)]
+#[derive(Clone, Copy)]
 struct Unread {
     start: usize,
     from: usize,
@@ -26,7 +26,7 @@ struct Unread {
 }
 
 // How far a run is between two steps: its input, its table and the place in the output, and whether it goes on.
-#[derive(Drop)]
+#[derive(Clone, Copy)]
 struct Progress {
     unread: Unread,
     session: Session,

@@ -20,7 +20,7 @@ const PLACE: usize = 132;
 const CHECK: usize = 510;
 
 // The frames of a good block, or why it is none.
-#[derive(Drop)]
+#[derive(Clone, Copy)]
 pub enum Judged {
     Good(usize),
     Refused(Refusal),

@@ -6,7 +6,7 @@ use text::line::find;
 use text::{field, print};
 
 // The reader after a line, and the place behind its answer.
-#[derive(Drop)]
+#[derive(Clone, Copy)]
 pub struct Done {
     pub reader: Reader,
     pub to: usize,

@@ -7,7 +7,7 @@ const LONGEST: usize = 2048;
 
 // The input that is read and not answered yet stands from `start` to `have`; no line ends before `from`. The beginning
 // of a line that was too long is gone and answered: the rest of it is to be skipped. `more`: whether the run goes on.
-#[derive(Drop)]
+#[derive(Clone, Copy)]
 pub struct Unread {
     pub start: usize,
     pub from: usize,

@@ -14,7 +14,7 @@ use input::Unread;
 use text::{field, line, print};
 
 // How far a run is between two steps: its input, its reader, and the place in the output.
-#[derive(Drop)]
+#[derive(Clone, Copy)]
 struct Progress {
     unread: Unread,
     reader: Reader,

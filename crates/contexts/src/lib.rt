@@ -22,7 +22,7 @@ use reassembly::Outcome;
 use words::WORDS;
 
 // Up to sixteen contexts as flat bytes, 8 each: the first `len` of `bytes`.
-#[derive(Drop)]
+#[derive(Clone, Copy)]
 pub struct Flat {
     pub bytes: [u8; 128],
     pub len: usize,

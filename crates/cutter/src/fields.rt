@@ -4,13 +4,13 @@ use ieee802154::{Address, Pan};
 use text::field;
 use text::field::{NONE, behind, number};
 
-#[derive(Drop)]
+#[derive(Clone, Copy)]
 struct AddressText {
     value: Address,
     next: usize,
 }
 
-#[derive(Drop)]
+#[derive(Clone, Copy)]
 pub struct LinkText {
     pub value: Link,
     pub next: usize,

@@ -17,7 +17,7 @@ const LONGEST: usize = 33000;
 // The input that is read and not answered yet stands from `start` to `have`; no line ends before `from`. The
 // beginning of a line that was too long is gone and answered: the rest of it is to be skipped. Then the place in
 // the output, and whether to go on.
-#[derive(Drop)]
+#[derive(Clone, Copy)]
 struct Progress {
     start: usize,
     from: usize,

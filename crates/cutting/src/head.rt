@@ -17,7 +17,7 @@ use sixlowpan::{IpProtocol, NextHeader};
 
 // What is read and measured once for a call: the addresses, whether the UDP header is compressed, and the length of the
 // compressed headers.
-#[derive(Drop)]
+#[derive(Clone, Copy)]
 pub struct Head {
     pub src: Ipv6Addr,
     pub dst: Ipv6Addr,

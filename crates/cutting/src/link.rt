@@ -8,7 +8,7 @@ ghost use Rattle.cutting.specs.Cut.{has_both};
 use ieee802154::{Address, AddressField, FrameType, FrameVersion, Pan, PanField};
 use octets::field::ByteField;
 
-#[derive(Drop)]
+#[derive(Clone, Copy)]
 pub struct Link {
     pub pan: Pan,
     pub src: Address,

@@ -6,7 +6,7 @@ use octets::refusal::Refusal;
 
 // The lengths that decide it: of the MAC header, of the compressed headers, of what they stand for, of the datagram,
 // and of the longest frame.
-#[derive(Drop)]
+#[derive(Clone, Copy)]
 pub struct Plan {
     pub mac: usize,
     pub head: usize,
@@ -15,7 +15,7 @@ pub struct Plan {
     pub limit: usize,
 }
 
-#[derive(Drop)]
+#[derive(Clone, Copy)]
 pub enum Piece {
     // The datagram in one frame.
     Whole,
@@ -25,7 +25,7 @@ pub enum Piece {
     Later(usize, usize),
 }
 
-#[derive(Drop)]
+#[derive(Clone, Copy)]
 pub enum PieceAnswer {
     Is(Piece),
     Refused(Refusal),

@@ -17,7 +17,7 @@ use octets::write::Written;
 use sixlowpan::frag::{Repr, Units};
 
 // How many frames there are, or why there is none.
-#[derive(Drop)]
+#[derive(Clone, Copy)]
 pub enum Counted {
     Frames(usize),
     Refused(Refusal),

@@ -30,7 +30,7 @@ use sixlowpan::nhc::{
 // An extension header: where in the frame what follows its first two bytes begins and ends, its number, and its next
 // header field. The places come first here and in `Step`, so that they lie side by side with those of its other cases:
 // the compiler then keeps a step in registers.
-#[derive(Drop)]
+#[derive(Clone, Copy)]
 pub struct Extension {
     pub from: Cursor,
     pub to: Cursor,
@@ -40,7 +40,7 @@ pub struct Extension {
 
 // What stands at a place of a chain, and the place behind it: a UDP header; an extension header; or the byte in front
 // of an IPv6 header.
-#[derive(Drop)]
+#[derive(Clone, Copy)]
 pub enum Step {
     Udp(Cursor, UdpNhcRepr),
     Extension(Extension),
@@ -51,7 +51,7 @@ pub enum Step {
 // How far an expansion has come: the identifiers of the addresses of the IPv6 header just outside, where in the
 // datagram that header stands and where the next one goes, how many headers may still come, and whether a routing
 // header came since the IPv6 header.
-#[derive(Drop)]
+#[derive(Clone, Copy)]
 pub struct Way {
     pub src: u64,
     pub dst: u64,
@@ -63,7 +63,7 @@ pub struct Way {
 
 // What stands behind the extension headers of a layer, and where: the payload, whose number stood inline; the data
 // behind a UDP header; an IPv6 header.
-#[derive(Drop)]
+#[derive(Clone, Copy)]
 pub enum Last {
     Rest(Cursor),
     Udp(Cursor, UdpNhcRepr),
@@ -72,35 +72,35 @@ pub enum Last {
 }
 
 // How far the expansion has come where something else than an extension header stands.
-#[derive(Drop)]
+#[derive(Clone, Copy)]
 pub struct Reached {
     pub way: Way,
     pub last: Last,
 }
 
 // All headers but UDP's are put, unless something was refused, and so many of them are IPv6 headers.
-#[derive(Drop)]
+#[derive(Clone, Copy)]
 pub struct Laid {
     pub reached: Reached,
     pub count: usize,
 }
 
 // Where the datagram ends, or its first part, and what is to be remembered of its checksum.
-#[derive(Drop)]
+#[derive(Clone, Copy)]
 pub enum Walked {
     End { len: u16, sum: UdpSum },
     Refused(Refusal),
 }
 
 // What is kept of an IPv6 header, or why there is none.
-#[derive(Drop)]
+#[derive(Clone, Copy)]
 pub enum KeptRead {
     Header(Kept),
     Refused(Refusal),
 }
 
 // The length of the whole datagram, or why it is not written.
-#[derive(Drop)]
+#[derive(Clone, Copy)]
 pub enum TotalAnswer {
     Is(u16),
     Refused(Refusal),

@@ -8,7 +8,7 @@ use octets::write::put_be16;
 // was carried (2), and where the IPv6 header just outside the UDP header and the UDP header itself stand; 0 where there
 // is nothing to know. Numbers, as the slot table keeps them.
 #[repr(C)]
-#[derive(Drop)]
+#[derive(Clone, Copy)]
 pub struct UdpSum {
     pub kind: u64,
     pub ip: u16,

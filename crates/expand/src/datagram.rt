@@ -18,7 +18,7 @@ pub const LONGEST: usize = 455;
 
 // How many bytes the datagram, or its first part, has, and what is to be remembered of its UDP checksum; or why there
 // is none.
-#[derive(Drop)]
+#[derive(Clone, Copy)]
 pub enum Expanded {
     Datagram { len: usize, sum: UdpSum },
     Refused(Refusal),

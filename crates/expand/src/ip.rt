@@ -16,7 +16,7 @@ use sixlowpan::nhc::UdpNhcRepr;
 
 // What is kept of an IPv6 header: what is written of it, but for its payload length; its next header field, and the
 // place behind it.
-#[derive(Drop)]
+#[derive(Clone, Copy)]
 pub struct Kept {
     pub src: Ipv6Addr,
     pub dst: Ipv6Addr,

@@ -18,14 +18,14 @@ use octets::write::put_be16;
 use sixlowpan::NextHeader;
 
 // Where an IPv6 header stands, and the link-layer addresses that stand for its elided ones.
-#[derive(Drop)]
+#[derive(Clone, Copy)]
 pub struct Inner {
     pub at: Cursor,
     pub ll: LinkAddresses,
 }
 
 // A next header field, and the place behind it.
-#[derive(Drop)]
+#[derive(Clone, Copy)]
 pub struct Field {
     pub next: NextHeader,
     pub at: Cursor,

@@ -16,7 +16,7 @@ pub const TWO: usize = 1024;
 const POOL: usize = 1112;
 
 // Whether more is to come, the end was declared, or a bad block was found.
-#[derive(Drop)]
+#[derive(Clone, Copy)]
 pub enum Status {
     Live,
     Ended,
@@ -25,7 +25,7 @@ pub enum Status {
 
 // The bytes of the block that has begun, with zeros behind them; how many they are; and the number of the block that
 // is due. Once the end is declared or a block is bad, nothing is held, and the number stays.
-#[derive(Drop)]
+#[derive(Clone, Copy)]
 pub struct Reader {
     pub held: [u8; BLOCK],
     pub len: usize,
@@ -35,7 +35,7 @@ pub struct Reader {
 
 // How many good blocks were completed; or how many, and the number of the bad block behind them; or why the call was
 // refused.
-#[derive(Drop)]
+#[derive(Clone, Copy)]
 pub enum Found {
     Blocks(usize),
     Bad(usize, u64),
@@ -44,7 +44,7 @@ pub enum Found {
 
 // The reader after a call, the good blocks one behind the other with zeros behind them, and what was found. Two blocks
 // are the most: 511 bytes held and 600 more are fewer than three times 512.
-#[derive(Drop)]
+#[derive(Clone, Copy)]
 pub struct Fed {
     pub reader: Reader,
     pub blocks: [u8; TWO],

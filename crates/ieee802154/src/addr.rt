@@ -15,7 +15,7 @@ use octets::write::{Written, put_be16, put_be64, put_le16, put_le64};
 const UNIVERSAL_LOCAL: u64 = 0x0200_0000_0000_0000;
 
 // A PAN identifier.
-#[derive(Drop)]
+#[derive(Clone, Copy)]
 pub struct Pan(pub u16);
 
 impl Pan {
@@ -41,7 +41,7 @@ impl Pan {
 }
 
 // An address; a short or an extended one as the number that its bytes are, the first byte high.
-#[derive(Drop)]
+#[derive(Clone, Copy)]
 pub enum Address {
     Absent,
     Short(u16),
@@ -49,32 +49,32 @@ pub enum Address {
 }
 
 // What a header may lack. An address of mode 00 is `Some(Absent)`.
-#[derive(Drop)]
+#[derive(Clone, Copy)]
 pub enum PanField {
     None,
     Some(Pan),
 }
 
-#[derive(Drop)]
+#[derive(Clone, Copy)]
 pub enum AddressField {
     None,
     Some(Address),
 }
 
-#[derive(Drop)]
+#[derive(Clone, Copy)]
 pub enum AddressAnswer {
     Is(Address),
     Refused(Refusal),
 }
 
 // The interface identifier, and the link-local address, of an extended address.
-#[derive(Drop)]
+#[derive(Clone, Copy)]
 pub enum Eui64 {
     None,
     Some(u64),
 }
 
-#[derive(Drop)]
+#[derive(Clone, Copy)]
 pub enum LinkLocal {
     None,
     Some(Ipv6Addr),

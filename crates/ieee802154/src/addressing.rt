@@ -9,37 +9,37 @@ use octets::cursor::{Cursor, LongRead, WordRead};
 use octets::refusal::Refusal;
 
 // One side's PAN identifier and address.
-#[derive(Drop)]
+#[derive(Clone, Copy)]
 pub struct Side {
     pub pan: PanField,
     pub addr: AddressField,
 }
 
-#[derive(Drop)]
+#[derive(Clone, Copy)]
 pub struct Addressing {
     pub dst: Side,
     pub src: Side,
 }
 
-#[derive(Drop)]
+#[derive(Clone, Copy)]
 pub enum PanRead {
     Field(PanField, Cursor),
     Refused(Refusal),
 }
 
-#[derive(Drop)]
+#[derive(Clone, Copy)]
 pub enum AddressRead {
     Field(AddressField, Cursor),
     Refused(Refusal),
 }
 
-#[derive(Drop)]
+#[derive(Clone, Copy)]
 pub enum SideRead {
     Field(Side, Cursor),
     Refused(Refusal),
 }
 
-#[derive(Drop)]
+#[derive(Clone, Copy)]
 pub enum AddressingRead {
     Field(Addressing, Cursor),
     Refused(Refusal),

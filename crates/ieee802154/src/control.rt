@@ -35,7 +35,7 @@ const MODES: u16 = 4;
 const VERSIONS: u16 = 4;
 
 // The frame type: every number of its three bits, named or not.
-#[derive(Drop)]
+#[derive(Clone, Copy)]
 pub struct FrameType(pub u8);
 
 impl FrameType {
@@ -63,7 +63,7 @@ impl FrameType {
 }
 
 // How an address is given: every number of its two bits, named or not.
-#[derive(Drop)]
+#[derive(Clone, Copy)]
 pub struct AddressingMode(pub u8);
 
 impl AddressingMode {
@@ -77,7 +77,7 @@ impl AddressingMode {
 }
 
 // The version of the standard: every number of its two bits, named or not.
-#[derive(Drop)]
+#[derive(Clone, Copy)]
 pub struct FrameVersion(pub u8);
 
 impl FrameVersion {
@@ -118,7 +118,7 @@ pub fn has_elements(frame: &[u8]) -> bool
 }
 
 // The frame control field.
-#[derive(Drop)]
+#[derive(Clone, Copy)]
 pub struct Control {
     pub frame_type: FrameType,
     pub security_enabled: bool,
@@ -132,7 +132,7 @@ pub struct Control {
 }
 
 // Which PAN identifiers a frame carries.
-#[derive(Drop)]
+#[derive(Clone, Copy)]
 pub struct Carried {
     pub dst: bool,
     pub src: bool,

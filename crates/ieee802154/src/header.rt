@@ -20,7 +20,7 @@ const SHORTEST: usize = 3;
 const LONGEST: usize = 127;
 
 // The fields of a header.
-#[derive(Drop)]
+#[derive(Clone, Copy)]
 pub struct Repr {
     pub frame_type: FrameType,
     pub security_enabled: bool,
@@ -36,7 +36,7 @@ pub struct Repr {
 }
 
 // A header and its length, or why there is none.
-#[derive(Drop)]
+#[derive(Clone, Copy)]
 pub enum Parsed {
     Header(Repr, Cursor),
     Refused(Refusal),
@@ -51,7 +51,7 @@ fn sequence_or_zero(q: ByteField) -> u8
     }
 }
 
-#[derive(Drop)]
+#[derive(Clone, Copy)]
 pub enum SequenceRead {
     Field(ByteField, Cursor),
     Refused(Refusal),

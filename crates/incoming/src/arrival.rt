@@ -11,7 +11,7 @@ use octets::refusal::Refusal;
 use relay::{MeshField, Relay, RelayRead};
 
 // Who sends a frame to whom, the sender's PAN, and where the payload begins.
-#[derive(Drop)]
+#[derive(Clone, Copy)]
 pub struct Arrival {
     pub src: Address,
     pub pan: PanField,
@@ -19,7 +19,7 @@ pub struct Arrival {
     pub payload: Cursor,
 }
 
-#[derive(Drop)]
+#[derive(Clone, Copy)]
 pub enum ArrivalAnswer {
     Is(Arrival),
     Refused(Refusal),

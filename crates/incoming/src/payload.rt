@@ -17,7 +17,7 @@ use sixlowpan::{SixlowpanPacket, frag};
 // What a payload is: a whole datagram, or a part of one. What was expanded stands, in full, at the scratch's start and
 // ends at a place: a whole datagram, and the part at offset 0. A later part's bytes stand in the frame and begin at a
 // place.
-#[derive(Drop)]
+#[derive(Clone, Copy)]
 pub enum Payload {
     Whole {
         len: usize,
@@ -35,7 +35,7 @@ pub enum Payload {
 
 // What a payload begins with: a compressed header at a place, of a whole datagram (no size) or of a first part; or the
 // bytes of a later part.
-#[derive(Drop)]
+#[derive(Clone, Copy)]
 enum Head {
     Compressed {
         at: Cursor,

@@ -6,14 +6,14 @@ use octets::cursor::{Cursor, LongRead};
 use octets::refusal::Refusal;
 
 // A prefix of 64 bits, the first byte first.
-#[derive(Drop)]
+#[derive(Clone, Copy)]
 pub struct AddressContext(pub [u8; 8]);
 
 impl AddressContext {
     pub const LEN: usize = 8;
 }
 
-#[derive(Drop)]
+#[derive(Clone, Copy)]
 pub enum PrefixAnswer {
     Is(u64),
     Refused(Refusal),

@@ -10,7 +10,7 @@ use octets::ipv6::Ipv6Addr;
 use octets::write::{put_be16, put_be32, put_be64, put_byte};
 
 // What is carried inline, by its number of bits; 48 and 128 as two numbers.
-#[derive(Drop)]
+#[derive(Clone, Copy)]
 pub enum Inline {
     Nothing,
     Bits8(u8),
@@ -22,7 +22,7 @@ pub enum Inline {
 }
 
 // The mode: SAC SAM of a source address, M DAC DAM of a destination address.
-#[derive(Drop)]
+#[derive(Clone, Copy)]
 pub struct Form {
     pub mode: u8,
     pub inline: Inline,

@@ -22,7 +22,7 @@ use sixlowpan::protocol::NextHeader;
 
 // The fields of a header. The link-layer addresses decide how much of each IPv6 address is elided, so they are among
 // them: `read` restores elided bits from them and `emit` elides against them.
-#[derive(Drop)]
+#[derive(Clone, Copy)]
 pub struct Repr {
     pub src_addr: Ipv6Addr,
     pub ll_src_addr: AddressField,
@@ -36,7 +36,7 @@ pub struct Repr {
 }
 
 // A header and the place after it, or why there is none.
-#[derive(Drop)]
+#[derive(Clone, Copy)]
 pub enum Parsed {
     Header(Repr, Cursor),
     Refused(Refusal),

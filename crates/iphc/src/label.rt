@@ -1,11 +1,11 @@
 // The flow label of an IPv6 header (RFC 8200, 6): 20 bits.
 
 // A flow label. No more than 20 bits are ever read into one (proofs/Labels.antt).
-#[derive(Drop)]
+#[derive(Clone, Copy)]
 pub struct FlowLabel(pub u32);
 
 // What a header may lack.
-#[derive(Drop)]
+#[derive(Clone, Copy)]
 pub enum LabelField {
     None,
     Some(FlowLabel),

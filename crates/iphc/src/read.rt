@@ -19,7 +19,7 @@ use sixlowpan::next::{NextRead, read_next};
 use sixlowpan::protocol::NextHeader;
 
 // The fields of the first two bytes.
-#[derive(Drop)]
+#[derive(Clone, Copy)]
 pub struct Base {
     pub tf: u8,
     pub nh: u8,
@@ -33,21 +33,21 @@ pub struct Base {
 }
 
 // The context identifiers of the two addresses.
-#[derive(Drop)]
+#[derive(Clone, Copy)]
 pub struct Contexts {
     pub src: u8,
     pub dst: u8,
 }
 
 // The link-layer addresses of the frame.
-#[derive(Drop)]
+#[derive(Clone, Copy)]
 pub struct LinkAddresses {
     pub src: AddressField,
     pub dst: AddressField,
 }
 
 // Traffic class and flow label.
-#[derive(Drop)]
+#[derive(Clone, Copy)]
 pub struct Traffic {
     pub ecn: ByteField,
     pub dscp: ByteField,
@@ -55,7 +55,7 @@ pub struct Traffic {
 }
 
 // What stands before the addresses.
-#[derive(Drop)]
+#[derive(Clone, Copy)]
 pub struct Front {
     pub contexts: Contexts,
     pub traffic: Traffic,
@@ -63,43 +63,43 @@ pub struct Front {
     pub hop_limit: u8,
 }
 
-#[derive(Drop)]
+#[derive(Clone, Copy)]
 pub struct Addresses {
     pub src: Ipv6Addr,
     pub dst: Ipv6Addr,
 }
 
-#[derive(Drop)]
+#[derive(Clone, Copy)]
 pub enum ContextsRead {
     Field(Contexts, Cursor),
     Refused(Refusal),
 }
 
-#[derive(Drop)]
+#[derive(Clone, Copy)]
 pub enum TrafficRead {
     Field(Traffic, Cursor),
     Refused(Refusal),
 }
 
-#[derive(Drop)]
+#[derive(Clone, Copy)]
 pub enum FrontRead {
     Field(Front, Cursor),
     Refused(Refusal),
 }
 
-#[derive(Drop)]
+#[derive(Clone, Copy)]
 pub enum AddrRead {
     Field(Ipv6Addr, Cursor),
     Refused(Refusal),
 }
 
-#[derive(Drop)]
+#[derive(Clone, Copy)]
 pub enum AddressesRead {
     Field(Addresses, Cursor),
     Refused(Refusal),
 }
 
-#[derive(Drop)]
+#[derive(Clone, Copy)]
 pub enum IidAnswer {
     Is(u64),
     Refused(Refusal),

@@ -12,7 +12,7 @@ use words::WORDS;
 
 // The slot table in its numbers (crate `words`), how many frames were received, and the number of the block that is
 // due.
-#[derive(Drop)]
+#[derive(Clone, Copy)]
 pub struct Ear {
     pub table: [u64; WORDS],
     pub frames: u64,
@@ -20,7 +20,7 @@ pub struct Ear {
 }
 
 // What a block came to: who listens on, whether reading goes on, and the place after the lines.
-#[derive(Drop)]
+#[derive(Clone, Copy)]
 pub struct Heard {
     pub ear: Ear,
     pub more: bool,

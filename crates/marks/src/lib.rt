@@ -5,6 +5,7 @@
 // each other, so that a fact on the marks fixes the words. A unit from 256 on has no mark, and marking it changes
 // nothing.
 #![tactic(auto)]
+
 ghost use Rattle.std.specs.Prelude.{true, false, ◌≡◌, ◌-◌, ◌^◌, ◌<◌, ◌≤◌, get_or};
 ghost use Rattle.marks.specs.Marks.{has_in, fill, bits, unpack, pack, within};
 

@@ -1,11 +1,11 @@
 // A field that a header may lack.
-#[derive(Drop)]
+#[derive(Clone, Copy)]
 pub enum ByteField {
     None,
     Some(u8),
 }
 
-#[derive(Drop)]
+#[derive(Clone, Copy)]
 pub enum WordField {
     None,
     Some(u16),

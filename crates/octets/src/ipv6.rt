@@ -4,7 +4,7 @@ ghost use Rattle.octets.specs.Ipv6.{is_unspecified, is_multicast, is_link_local}
 
 // An address as the RFCs speak of it: the prefix, its first eight bytes, and the interface identifier, its last eight,
 // each as the number that the bytes are, the first byte high.
-#[derive(Drop)]
+#[derive(Clone, Copy)]
 pub struct Ipv6Addr {
     pub prefix: u64,
     pub iid: u64,

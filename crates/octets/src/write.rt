@@ -6,7 +6,7 @@ ghost use Rattle.octets.specs.Write.{le64_bytes};
 use super::refusal::Refusal;
 
 // How many bytes were written, or why none was.
-#[derive(Drop)]
+#[derive(Clone, Copy)]
 pub enum Written {
     Bytes(usize),
     Refused(Refusal),

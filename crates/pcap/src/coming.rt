@@ -65,13 +65,13 @@ pub fn from_pcap(pcap: &[u8], out: &mut [u8]) -> Written
 }
 
 // Pcap that comes a block at a time: how many of its frames were moved.
-#[derive(Drop)]
+#[derive(Clone, Copy)]
 pub struct FromPcap {
     pub frames: u64,
 }
 
 // What is due after a call, how many bytes of pcap it used, and the bytes of the block that it put, or why it put none.
-#[derive(Drop)]
+#[derive(Clone, Copy)]
 pub struct CameOn {
     pub after: FromPcap,
     pub used: usize,

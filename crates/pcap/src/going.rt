@@ -135,13 +135,13 @@ pub fn to_pcap(capture: &[u8], out: &mut [u8]) -> Written
 }
 
 // A capture that goes to pcap a block at a time: the number of the block that is due.
-#[derive(Drop)]
+#[derive(Clone, Copy)]
 pub struct ToPcap {
     pub block: u64,
 }
 
 // What is due after a call, and how many bytes of pcap it put, or why it put none.
-#[derive(Drop)]
+#[derive(Clone, Copy)]
 pub struct WentOn {
     pub after: ToPcap,
     pub answer: Written,

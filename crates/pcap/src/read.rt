@@ -20,7 +20,7 @@ const MILLISECOND: u32 = 1000;
 const WIDE_MILLISECOND: u64 = MILLISECOND as u64;
 
 // A frame: its time, where its bytes begin, and how many they are.
-#[derive(Drop)]
+#[derive(Clone, Copy)]
 pub enum FrameRead {
     Frame(u32, Cursor, usize),
     Refused(Refusal),

@@ -20,7 +20,7 @@ pub const LARGEST: usize = 2047;
 
 // A part beside its bytes, which are lent: specs/Parts.antt has the two as one (`with_bytes`). `sum` is read of the part
 // at byte 0 only.
-#[derive(Drop)]
+#[derive(Clone, Copy)]
 pub struct Part {
     pub key: Key,
     pub offset: Units,
@@ -28,7 +28,7 @@ pub struct Part {
 }
 
 // What a call comes to: the part is kept; a datagram of so many bytes stands at the output's start; or a refusal.
-#[derive(Drop)]
+#[derive(Clone, Copy)]
 pub enum Outcome {
     Kept,
     Out(usize),
@@ -36,7 +36,7 @@ pub enum Outcome {
 }
 
 // What a part comes to in its slot: the answer, and the record after it.
-#[derive(Drop)]
+#[derive(Clone, Copy)]
 pub struct InSlot {
     pub outcome: Outcome,
     pub slot: Slot,

@@ -8,7 +8,7 @@ use ieee802154::{Address, PanField};
 
 // An address as two numbers: its kind (0 absent, 1 short, 2 extended) and its value, 0 where it is absent.
 #[repr(C)]
-#[derive(Drop)]
+#[derive(Clone, Copy)]
 pub struct Node {
     pub kind: u64,
     pub number: u64,
@@ -16,7 +16,7 @@ pub struct Node {
 
 // Who sends: an address, and the number of its PAN, 0 where there is none.
 #[repr(C)]
-#[derive(Drop)]
+#[derive(Clone, Copy)]
 pub struct Source {
     pub node: Node,
     pub pan: u64,
@@ -24,7 +24,7 @@ pub struct Source {
 
 // What tells one datagram's parts from another's.
 #[repr(C)]
-#[derive(Drop)]
+#[derive(Clone, Copy)]
 pub struct Key {
     pub src: Source,
     pub dst: Node,
@@ -35,7 +35,7 @@ pub struct Key {
 // A slot's record: open (live is 1) under a key since a time, a mark of coverage and of a part's start for each of its
 // 256 units of 8 bytes, and what is remembered of the UDP checksum.
 #[repr(C)]
-#[derive(Drop)]
+#[derive(Clone, Copy)]
 pub struct Slot {
     pub key: Key,
     pub since: u64,

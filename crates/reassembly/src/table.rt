@@ -23,7 +23,7 @@ const SLOT_BYTES: usize = 2048;
 pub const LENT: usize = 16384;
 
 // A gateway as it is listed: its address, and its PAN or none.
-#[derive(Drop)]
+#[derive(Clone, Copy)]
 pub struct Gateway {
     pub addr: Address,
     pub pan: PanField,
@@ -31,7 +31,7 @@ pub struct Gateway {
 
 // What a table is: the slots, the last time taken, and the gateways; a seat without one holds an absent address. Its
 // caller keeps it as numbers (crate `words`).
-#[derive(Drop)]
+#[derive(Clone, Copy)]
 pub struct Table {
     pub slots: [Slot; 8],
     pub last: u64,
@@ -39,7 +39,7 @@ pub struct Table {
 }
 
 // Where a part goes, and when: slot `index`, whose record is `slot`.
-#[derive(Drop)]
+#[derive(Clone, Copy)]
 pub struct Target {
     pub slot: Slot,
     pub index: usize,
@@ -47,14 +47,14 @@ pub struct Target {
 }
 
 // Whether a gateway list was taken.
-#[derive(Drop)]
+#[derive(Clone, Copy)]
 pub enum Listed {
     Accepted,
     Refused(Refusal),
 }
 
 // A gateway list, judged, and its seats; nobody's where it was refused.
-#[derive(Drop)]
+#[derive(Clone, Copy)]
 pub struct Seated {
     pub answer: Listed,
     pub seats: [Source; 4],

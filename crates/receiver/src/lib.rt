@@ -30,7 +30,7 @@ use words::WORDS;
 const SCRATCH: usize = 456;
 
 // Whether a call is taken, before its frame is looked at.
-#[derive(Drop)]
+#[derive(Clone, Copy)]
 enum Judged {
     Taken,
     Refused(Refusal),

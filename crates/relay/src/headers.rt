@@ -16,26 +16,26 @@ use octets::field::ByteField;
 use octets::refusal::Refusal;
 use octets::write::Written;
 
-#[derive(Drop)]
+#[derive(Clone, Copy)]
 pub struct Relay {
     pub mesh: MeshField,
     // The broadcast header's sequence number.
     pub broadcast: ByteField,
 }
 
-#[derive(Drop)]
+#[derive(Clone, Copy)]
 pub enum RelayRead {
     Headers(Relay, Cursor),
     Refused(Refusal),
 }
 
-#[derive(Drop)]
+#[derive(Clone, Copy)]
 pub enum MeshFieldRead {
     Field(MeshField, Cursor),
     Refused(Refusal),
 }
 
-#[derive(Drop)]
+#[derive(Clone, Copy)]
 pub enum SequenceRead {
     Field(ByteField, Cursor),
     Refused(Refusal),

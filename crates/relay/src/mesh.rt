@@ -11,7 +11,7 @@ use octets::cursor::{ByteRead, Cursor, LongRead, WordRead};
 use octets::refusal::Refusal;
 use octets::write::{put_be16, put_be64, put_byte};
 
-#[derive(Drop)]
+#[derive(Clone, Copy)]
 pub struct Mesh {
     // How many hops the datagram may still go.
     pub hops: u8,
@@ -20,19 +20,19 @@ pub struct Mesh {
 }
 
 // What a frame may lack.
-#[derive(Drop)]
+#[derive(Clone, Copy)]
 pub enum MeshField {
     None,
     Some(Mesh),
 }
 
-#[derive(Drop)]
+#[derive(Clone, Copy)]
 pub enum AddressRead {
     Field(Address, Cursor),
     Refused(Refusal),
 }
 
-#[derive(Drop)]
+#[derive(Clone, Copy)]
 pub enum MeshRead {
     Header(Mesh, Cursor),
     Refused(Refusal),

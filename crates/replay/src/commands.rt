@@ -5,7 +5,7 @@ use check::same;
 use text::field;
 
 // `Unknown` is answered `bad`, as a command whose fields are not of their kinds is.
-#[derive(Drop)]
+#[derive(Clone, Copy)]
 enum Command {
     MacParse,
     MacEmit,

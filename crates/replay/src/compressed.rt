@@ -5,7 +5,7 @@ use ieee802154::AddressField;
 use iphc::{Parsed, Repr};
 use text::field;
 
-#[derive(Drop)]
+#[derive(Clone, Copy)]
 struct ReprText {
     value: Repr,
     next: usize,
@@ -55,7 +55,7 @@ fn parsed(
 }
 
 // The fields of iphc.parse: how many bytes of the room are the header's, and how many behind them the contexts'.
-#[derive(Drop)]
+#[derive(Clone, Copy)]
 struct Query {
     bytes: usize,
     src: AddressField,

@@ -12,49 +12,49 @@ use text::field;
 use text::field::{NONE, NumberText, at, behind, number};
 use text::line::find;
 
-#[derive(Drop)]
+#[derive(Clone, Copy)]
 pub struct FlagText {
     pub value: bool,
     pub next: usize,
 }
 
-#[derive(Drop)]
+#[derive(Clone, Copy)]
 pub struct ByteText {
     pub value: ByteField,
     pub next: usize,
 }
 
-#[derive(Drop)]
+#[derive(Clone, Copy)]
 pub struct WordText {
     pub value: WordField,
     pub next: usize,
 }
 
-#[derive(Drop)]
+#[derive(Clone, Copy)]
 pub struct LabelText {
     pub value: LabelField,
     pub next: usize,
 }
 
-#[derive(Drop)]
+#[derive(Clone, Copy)]
 pub struct PanText {
     pub value: PanField,
     pub next: usize,
 }
 
-#[derive(Drop)]
+#[derive(Clone, Copy)]
 pub struct LinkText {
     pub value: AddressField,
     pub next: usize,
 }
 
-#[derive(Drop)]
+#[derive(Clone, Copy)]
 pub struct Ipv6Text {
     pub value: Ipv6Addr,
     pub next: usize,
 }
 
-#[derive(Drop)]
+#[derive(Clone, Copy)]
 pub struct NextText {
     pub value: NextHeader,
     pub next: usize,

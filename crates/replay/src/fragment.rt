@@ -9,7 +9,7 @@ use sixlowpan::dispatch::DispatchAnswer;
 use sixlowpan::frag::{Key, KeyAnswer, Parsed, Repr, Units};
 use text::{field, print};
 
-#[derive(Drop)]
+#[derive(Clone, Copy)]
 struct ReprText {
     value: Repr,
     next: usize,

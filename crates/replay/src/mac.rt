@@ -8,7 +8,7 @@ use ieee802154::{
 use octets::write::Written;
 use text::{field, print};
 
-#[derive(Drop)]
+#[derive(Clone, Copy)]
 struct ReprText {
     value: Repr,
     next: usize,

@@ -22,7 +22,7 @@ const ANSWER: usize = 4096;
 
 // What is kept from one read to the next: how many bytes of an unfinished line stand at the input's start, whether that
 // line is passed over, and whether to go on.
-#[derive(Drop)]
+#[derive(Clone, Copy)]
 struct Kept {
     have: usize,
     skip: bool,
@@ -31,7 +31,7 @@ struct Kept {
 
 // The lines answered so far: where the next one starts, whether it is passed over, the place in the output, and whether
 // every write went well.
-#[derive(Drop)]
+#[derive(Clone, Copy)]
 struct Done {
     start: usize,
     skip: bool,

@@ -6,13 +6,13 @@ use sixlowpan::nhc::{
 };
 use text::print;
 
-#[derive(Drop)]
+#[derive(Clone, Copy)]
 struct ExtText {
     value: ExtHeaderRepr,
     next: usize,
 }
 
-#[derive(Drop)]
+#[derive(Clone, Copy)]
 struct UdpText {
     value: UdpNhcRepr,
     next: usize,

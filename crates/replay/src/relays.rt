@@ -8,7 +8,7 @@ use octets::field::ByteField;
 use relay::{Mesh, MeshField, Relay, RelayRead};
 use text::{field, print};
 
-#[derive(Drop)]
+#[derive(Clone, Copy)]
 struct MeshText {
     value: MeshField,
     next: usize,

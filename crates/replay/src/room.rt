@@ -17,7 +17,7 @@ const FILL: u8 = 0xa5;
 
 // What a writer did: the length that it announced, the room that it was lent, NONE where the line is no command, and
 // its answer.
-#[derive(Drop)]
+#[derive(Clone, Copy)]
 pub struct Emitted {
     pub len: usize,
     pub room: usize,

@@ -5,13 +5,13 @@ ghost use Rattle.sixlowpan.specs.Dispatch.{of_dispatch, dispatch_of, dispatch};
 use octets::cursor::{ByteRead, Cursor};
 use octets::refusal::Refusal;
 
-#[derive(Drop)]
+#[derive(Clone, Copy)]
 pub enum SixlowpanPacket {
     FragmentHeader,
     IphcHeader,
 }
 
-#[derive(Drop)]
+#[derive(Clone, Copy)]
 pub enum DispatchAnswer {
     Is(SixlowpanPacket),
     Refused(Refusal),

@@ -18,7 +18,7 @@ pub const FIRST_FRAGMENT_HEADER_SIZE: usize = 4;
 pub const NEXT_FRAGMENT_HEADER_SIZE: usize = 5;
 
 // A number of units of 8 octets, as the offset of a part is given. `bytes` makes it a number of bytes.
-#[derive(Drop)]
+#[derive(Clone, Copy)]
 pub struct Units(pub u8);
 
 impl Units {
@@ -31,7 +31,7 @@ impl Units {
     }
 }
 
-#[derive(Drop)]
+#[derive(Clone, Copy)]
 pub enum Repr {
     // The first part of a datagram.
     FirstFragment { size: u16, tag: u16 },
@@ -40,14 +40,14 @@ pub enum Repr {
 }
 
 // A header and the place after it, or why there is none.
-#[derive(Drop)]
+#[derive(Clone, Copy)]
 pub enum Parsed {
     Header(Repr, Cursor),
     Refused(Refusal),
 }
 
 // What tells the parts of one datagram from those of another.
-#[derive(Drop)]
+#[derive(Clone, Copy)]
 pub struct Key {
     pub ll_src_addr: Address,
     pub ll_dst_addr: Address,
@@ -55,7 +55,7 @@ pub struct Key {
     pub datagram_tag: u16,
 }
 
-#[derive(Drop)]
+#[derive(Clone, Copy)]
 pub enum KeyAnswer {
     Is(Key),
     Refused(Refusal),

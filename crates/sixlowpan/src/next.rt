@@ -8,7 +8,7 @@ use octets::cursor::{ByteRead, Cursor};
 use octets::refusal::Refusal;
 use octets::write::put_byte;
 
-#[derive(Drop)]
+#[derive(Clone, Copy)]
 pub enum NextRead {
     Field(NextHeader, Cursor),
     Refused(Refusal),

@@ -18,13 +18,13 @@ use octets::refusal::Refusal;
 use octets::write::{Written, put_be16, put_byte};
 
 // The kind of compressed next header.
-#[derive(Drop)]
+#[derive(Clone, Copy)]
 pub enum NhcPacket {
     ExtHeader,
     UdpHeader,
 }
 
-#[derive(Drop)]
+#[derive(Clone, Copy)]
 pub enum NhcAnswer {
     Is(NhcPacket),
     Refused(Refusal),
@@ -62,7 +62,7 @@ impl NhcPacket {
 }
 
 // The IPv6 extension header that a compressed one stands for.
-#[derive(Drop)]
+#[derive(Clone, Copy)]
 pub enum ExtHeaderId {
     HopByHopHeader,
     RoutingHeader,
@@ -121,7 +121,7 @@ impl ExtHeaderId {
     }
 }
 
-#[derive(Drop)]
+#[derive(Clone, Copy)]
 pub struct ExtHeaderRepr {
     pub ext_header_id: ExtHeaderId,
     pub next_header: NextHeader,
@@ -130,7 +130,7 @@ pub struct ExtHeaderRepr {
 }
 
 // A header and the place after it, or why there is none.
-#[derive(Drop)]
+#[derive(Clone, Copy)]
 pub enum ExtParsed {
     Header(ExtHeaderRepr, Cursor),
     Refused(Refusal),
@@ -214,7 +214,7 @@ impl ExtHeaderRepr {
     }
 }
 
-#[derive(Drop)]
+#[derive(Clone, Copy)]
 pub struct UdpNhcRepr {
     pub src_port: u16,
     pub dst_port: u16,
@@ -223,25 +223,25 @@ pub struct UdpNhcRepr {
 }
 
 // A header and the place after it, or why there is none.
-#[derive(Drop)]
+#[derive(Clone, Copy)]
 pub enum UdpParsed {
     Header(UdpNhcRepr, Cursor),
     Refused(Refusal),
 }
 
-#[derive(Drop)]
+#[derive(Clone, Copy)]
 struct Ports {
     src: u16,
     dst: u16,
 }
 
-#[derive(Drop)]
+#[derive(Clone, Copy)]
 enum PortsRead {
     Field(Ports, Cursor),
     Refused(Refusal),
 }
 
-#[derive(Drop)]
+#[derive(Clone, Copy)]
 enum ChecksumRead {
     Field(WordField, Cursor),
     Refused(Refusal),

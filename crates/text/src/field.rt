@@ -13,14 +13,14 @@ use std::num::wrapping_sub_u8;
 pub const NONE: usize = usize::MAX;
 
 // A number that a field says.
-#[derive(Drop)]
+#[derive(Clone, Copy)]
 pub struct NumberText {
     pub value: u64,
     pub next: usize,
 }
 
 // How many bytes a field in hexadecimal holds.
-#[derive(Drop)]
+#[derive(Clone, Copy)]
 pub struct BytesText {
     pub count: usize,
     pub next: usize,
