@@ -12,6 +12,7 @@
 // headers that `round_trips` admits read back as they were written (RoundTrips, Exact). No function asks anything of its
 // caller, and each contract fixes the answer and the lent bytes (Unique).
 #![tactic(auto)]
+
 pub mod addr;
 pub mod addressing;
 pub mod control;

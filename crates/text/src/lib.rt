@@ -7,6 +7,7 @@
 //
 // No public function asks anything of its caller, and each contract fixes the answer and the lent bytes.
 #![tactic(auto)]
+
 pub mod field;
 pub mod line;
 pub mod print;

@@ -1,0 +1,16 @@
+use Rattle.octets.proofs.Puts.{put-nil, case-put}
+use Rattle.ieee802154.specs.Addressing.{field_bytes}
+use Rattle.ieee802154.specs.declared.addr.AddressField.{AddressField}
+use Rattle.ieee802154.proofs.addr.AddressField.put.Goals as goal
+
+pub returns-in-None : goal.returns-in-None
+returns-in-None c = search (put-nil, case-put field_bytes)
+
+pub returns-in-Absent : goal.returns-in-Absent
+returns-in-Absent c = search (put-nil, case-put field_bytes, case-put (λ x. field_bytes (AddressField.Some x)))
+
+pub returns-in-Short : goal.returns-in-Short
+returns-in-Short c = search (case-put field_bytes, case-put (λ x. field_bytes (AddressField.Some x)))
+
+pub returns-in-Extended : goal.returns-in-Extended
+returns-in-Extended c = search (case-put field_bytes, case-put (λ x. field_bytes (AddressField.Some x)))

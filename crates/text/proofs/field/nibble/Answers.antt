@@ -1,0 +1,12 @@
+use Rattle.std.proofs.Common.{rules}
+use Rattle.text.proofs.Fields.{is-letter, is-decimal, is-stray}
+use Rattle.text.proofs.field.nibble.Goals as goal
+
+pub returns-then-letter-lt6 : goal.returns-then-letter-lt6
+returns-then-letter-lt6 c = search (rules, is-letter)
+
+pub returns-then-decimal-lt10 : goal.returns-then-decimal-lt10
+returns-then-decimal-lt10 c = search (rules, is-decimal)
+
+pub returns-else-decimal-lt10 : goal.returns-else-decimal-lt10
+returns-else-decimal-lt10 c = search (rules, is-stray)
