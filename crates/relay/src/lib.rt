@@ -11,6 +11,7 @@
 // (Spans), and that no address that was read is absent (Parts). No function asks anything of its caller, and each
 // contract fixes the answer and the lent bytes (Unique).
 #![tactic(auto)]
+
 pub mod broadcast;
 pub mod headers;
 pub mod mesh;

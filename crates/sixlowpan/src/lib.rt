@@ -8,6 +8,7 @@
 // Each reader equals a definition written from the RFC, on every input; each writer writes exactly the bytes that its
 // definition lists, or refuses, 7, and leaves the room as it was. What is written reads back (proofs/).
 #![tactic(auto)]
+
 pub mod dispatch;
 pub mod frag;
 pub mod next;
