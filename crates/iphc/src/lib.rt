@@ -12,6 +12,7 @@
 // that read as the same header are fewer than those that are written, but for one exception (specs/Shortest.antt,
 // proofs/Shortest.antt).
 #![tactic(auto)]
+
 pub mod context;
 mod emit;
 mod form;
