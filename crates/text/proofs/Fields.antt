@@ -6,7 +6,7 @@ use lib.Bits.{bit_or, or_lt, or_add_and, and_le_l, and_le_r}
 use borrow.Author.Tests.{lt-leb, eqb-false}
 use Rattle.octets.specs.Read.{choose}
 use Rattle.octets.specs.Write.{put}
-use Rattle.bytes.specs.Bytes.{index_of, index_after}
+use Rattle.text.specs.Bytes.{index_of, index_after}
 use Rattle.text.specs.declared.field.NumberText.{NumberText}
 use Rattle.text.specs.declared.field.BytesText.{BytesText}
 use Rattle.text.specs.Fields.{none, part_of, behind_of, nibble_of, strays, hex_of, hex_at, no_number, digits_at, decimal_of, end_of, number_at, decimal_at, count_of, pairs_of, stray_pairs, pairs_in, are_pairs, bytes_at, room_after}

@@ -1,7 +1,7 @@
 -- Where a byte stands first, and an unfinished line moved to the front.
 use Rattle.std.proofs.Common.{◌≡◌, ℕ, zero, suc, ◌+◌, ◌<◌, ◌≤◌, Bool, true, false, eqb, List, [], ◌∷◌, length, get_or, take, drop, set, sym, refl, ap, ◌∙◌, zero-add, add-one, arith, length-drop, drop_of_length-le, length-take-le, get_or-drop, drop-cons, drop-drop, drop-set-lt, eq-eqb, ne_eqb}
 use Rattle.octets.specs.Write.{put}
-use Rattle.bytes.specs.Bytes.{index_of, index_after}
+use Rattle.text.specs.Bytes.{index_of, index_after}
 
 pub found : (b : ℕ) (s : List ℕ) (i : ℕ) → i < length s → get_or s i 0 ≡ b → i + index_of b (drop i s) ≡ i
 unfolding index_of index_after

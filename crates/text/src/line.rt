@@ -1,7 +1,7 @@
 // Lines of bytes, each ended by a line feed.
 ghost use Rattle.std.specs.Prelude.{◌≡◌, ◌+◌, false, length, drop};
 ghost use Rattle.octets.specs.Write.{put};
-ghost use Rattle.bytes.specs.Bytes.{index_of};
+ghost use Rattle.text.specs.Bytes.{index_of};
 
 // Whether a byte stands among others. No byte ends the loop early, so that it compiles to vector code.
 fn holds(s: &[u8], b: u8) -> bool

@@ -4,8 +4,8 @@ use Rattle.text.specs.Fields.{pairs_of, stray_pairs}
 use Rattle.text.proofs.Fields.{uncounted}
 use Rattle.text.proofs.field.pairs.Given as goal
 
-abbrev pub invariant-loop : goal.invariant-loop
-invariant-loop l = (length l.room ≡ length l.initial.room) × (put l.i (pairs_of (l.n - l.i) (drop (l.i * 2) l.s)) l.room ≡ put 0 (pairs_of l.n l.s) l.initial.room) × (eqb (uncounted l.worst (stray_pairs (l.n - l.i) (drop (l.i * 2) l.s))) 0 ≡ eqb (stray_pairs l.n l.s) 0)
+abbrev pub invariant-loop-i : goal.invariant-loop-i
+invariant-loop-i l = (length l.room ≡ length l.initial.room) × (put l.i (pairs_of (l.n - l.i) (drop (l.i * 2) l.s)) l.room ≡ put 0 (pairs_of l.n l.s) l.initial.room) × (eqb (uncounted l.worst (stray_pairs (l.n - l.i) (drop (l.i * 2) l.s))) 0 ≡ eqb (stray_pairs l.n l.s) 0)
 
-abbrev pub decreases-loop : goal.decreases-loop
-decreases-loop l = l.n - l.i
+abbrev pub decreases-loop-i : goal.decreases-loop-i
+decreases-loop-i l = l.n - l.i

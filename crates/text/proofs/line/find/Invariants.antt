@@ -1,9 +1,9 @@
 use Rattle.std.proofs.Common.{◌≡◌, ◌+◌, ◌-◌, length, drop}
-use Rattle.bytes.specs.Bytes.{index_of}
+use Rattle.text.specs.Bytes.{index_of}
 use Rattle.text.proofs.line.find.Given as goal
 
-abbrev pub invariant-loop : goal.invariant-loop
-invariant-loop l = l.i + index_of l.b (drop l.i l.s) ≡ l.from + index_of l.b (drop l.from l.s)
+abbrev pub invariant-loop-i : goal.invariant-loop-i
+invariant-loop-i l = l.i + index_of l.b (drop l.i l.s) ≡ l.from + index_of l.b (drop l.from l.s)
 
-abbrev pub decreases-loop : goal.decreases-loop
-decreases-loop l = length l.s - l.i
+abbrev pub decreases-loop-i : goal.decreases-loop-i
+decreases-loop-i l = length l.s - l.i

@@ -1,7 +1,8 @@
-use Rattle.std.proofs.Common.{◌≡◌, ◌+◌, ◌-◌, false, get_or, drop, sym, ◌∙◌, ⊎_elim, arith}
-use Rattle.bytes.specs.Bytes.{index_of}
+use Rattle.std.proofs.Common.{◌≡◌, ◌+◌, ◌-◌, false, get_or, drop, sym, ◌∙◌, arith}
+use Rattle.text.specs.Bytes.{index_of}
 use Rattle.text.proofs.Lines.{passed, none_left}
 use Rattle.text.proofs.line.holds.Goals as goal
+use Rattle.text.proofs.line.holds.Goals.{then-s-i, else-s-i}
 
 pub loop-i-init : goal.loop-i-init
 loop-i-init c = (omega arith, λ e. omega arith)
@@ -12,7 +13,7 @@ loop-i-preserved c =
     let l = c.loop-i in
     let on : (l.found ≡ false) → (get_or a.s.now l.i 0 ≡ a.b → ⊥) → index_of a.b a.s.now ≡ l.i + 1 + index_of a.b (drop (l.i + 1) a.s.now) =
     λ e h. l.invariant.1 e ∙ passed a.b a.s.now l.i (omega arith) h in
-    (omega arith, λ e. ⊎_elim (λ w. cc (w.1, e)) (λ w. on (sym w.1 ∙ e) w.0.left) c.if-s-i.branch)
+    (omega arith, λ e. elim c.if-s-i.branch [ then-s-i w ↦ cc (w.found-is, e) | else-s-i w ↦ on (sym w.found-is ∙ e) w.if-s-i.false ])
 
 pub returns : goal.returns
 returns c =
