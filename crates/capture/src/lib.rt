@@ -12,6 +12,7 @@
 // writer makes of its own frames (Exact). No public function asks anything of its caller, and each contract fixes the
 // answer (Unique).
 #![tactic(auto)]
+
 pub mod block;
 pub mod fcs;
 mod table;
