@@ -3,6 +3,7 @@
 // A contract speaks of functions: a constant that none of them uses could be wrong, and every crate would still be
 // proved. Here each one is the answer of a function whose contract has the number, so that a wrong one is refused.
 #![tactic(auto)]
+
 ghost use Rattle.std.specs.Prelude.{◌≡◌, [], ◌∷◌};
 ghost use Rattle.ieee802154.specs.declared.addr.Address.TheVariants.{Short};
 

@@ -6,6 +6,7 @@
 //
 // Each answer, and the lent bytes after it, are those of specs/Cut.antt's `cut`, on every input.
 #![tactic(auto)]
+
 mod fields;
 mod head;
 pub mod link;

@@ -10,6 +10,7 @@
 // No public function asks anything of its caller. Each answer equals a definition of specs/, written from the RFCs, on
 // every input, and so do the lent bytes: a refused call writes none, but for `fill`, which then writes zeros.
 #![tactic(auto)]
+
 mod chain;
 pub mod checksum;
 pub mod copy;

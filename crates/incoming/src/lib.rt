@@ -7,6 +7,7 @@
 // The answers are those of specs/Incoming.antt on every input, and the checks come in the scope document's order. The
 // gateway test stands between the two: the sender is judged before the payload is looked at.
 #![tactic(auto)]
+
 pub mod arrival;
 pub mod payload;
 

@@ -10,6 +10,7 @@
 // `to_pcap` and `from_pcap` on every slice. proofs/Moves.antt shows what they keep, and proofs/Streaming.antt that a
 // block at a time (specs/Streaming.antt) is the whole move. No public function asks anything of its caller.
 #![tactic(auto)]
+
 pub mod coming;
 mod fill;
 pub mod going;

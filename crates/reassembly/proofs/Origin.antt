@@ -215,11 +215,11 @@ told-opens k σ h G t p j O T i s b H =
           rw (note-other k t p (land σ t j 1 (place s₀ b₀ p)) h other_key) (T i s b W))
     ]
 
-pub did-told : {c : Call} {r : Result} (k : Key) (σ : State) (h : List Part) → Good σ → Did σ c r → Told k σ h → Told k r.state (note k c r h)
+pub did-told : {c : Call} (k : Key) (σ : State) {r : Result} (h : List Part) → Good σ → Did σ c r → Told k σ h → Told k r.state (note k c r h)
 unfolding untouched pass offer_at open_at with_slots
-did-told {c} {r} k σ h G lacking T i s b H = rw (note-no k short (untouched σ 7) h (unfold untouched in refl)) (T i s b H)
-did-told {c} {r} k σ h G (stale t l w) T i s b H = rw (note-no k c (untouched σ 8) h (unfold untouched in refl)) (T i s b H)
-did-told {c} {r} k σ h G (passed t a l w v) T i s b H =
+did-told {c} k σ {r} h G lacking T i s b H = rw (note-no k short (untouched σ 7) h (unfold untouched in refl)) (T i s b H)
+did-told {c} k σ {r} h G (stale t l w) T i s b H = rw (note-no k c (untouched σ 8) h (unfold untouched in refl)) (T i s b H)
+did-told {c} k σ {r} h G (passed t a l w v) T i s b H =
     let W = was-held k σ t i G H.low (rw H.slot H.key) in
     let W' : Holding k σ i s b = rw (H.slot, H.mem) at W in
     rw (note-no k c (pass σ t a) h (unfold pass in refl)) (T i s b W')
@@ -329,7 +329,7 @@ made-opens k σ h d G t p j O e a =
     let sk : s₀.key ≡ k = is_key-key p.key s₀ (opened-is p.key t) ∙ e in
     rw n (placed-made k [] s₀ b₀ p d none e O.fit (opened-clear p.key t p) sk a)
 
-pub did_made : {c : Call} {r : Result} (k : Key) (σ : State) (h : List Part) (d : List ℕ) → Good σ → Did σ c r → Told k σ h → Under k c
+pub did_made : {c : Call} (k : Key) (σ : State) {r : Result} (h : List Part) (d : List ℕ) → Good σ → Did σ c r → Told k σ h → Under k c
     → r.reply ≡ out d → MadeOf k (note k c r h) d
 unfolding untouched pass offer_at open_at land
 did_made k σ h d G lacking T u a = absurd u

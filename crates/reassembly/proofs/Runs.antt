@@ -155,7 +155,7 @@ good-land : (σ : State) (t i o : ℕ) (r : Put) → Good σ → Sound (gates_of
 unfolding land with_slots gates_of
 good-land σ t i o r G S = record { sound = S; room = omega (arith, G.room, length-splice σ.mem i r.bytes) }
 
-pub did-good : {c : Call} {r : Result} (σ : State) → Good σ → Did σ c r → Good r.state
+pub did-good : {c : Call} (σ : State) {r : Result} → Good σ → Did σ c r → Good r.state
 unfolding untouched offer_at open_at
 did-good σ G lacking = G
 did-good σ G (stale t h w) = G
@@ -173,7 +173,7 @@ did-good σ G (opens t p j O) =
     (place_after s b p) O.closed O.gate O.may)
 
 -- the gateways stay
-pub did-gates : {c : Call} {r : Result} (σ : State) → Did σ c r → gates_of r.state.table ≡ gates_of σ.table
+pub did-gates : {c : Call} (σ : State) {r : Result} → Did σ c r → gates_of r.state.table ≡ gates_of σ.table
 unfolding untouched offer_at open_at pass land with_slots gates_of
 did-gates σ lacking = refl
 did-gates σ (stale t h w) = refl
@@ -182,7 +182,7 @@ did-gates σ (offered t p i O) = refl
 did-gates σ (opens t p j O) = refl
 
 -- the lent memory keeps its length
-pub did-length : {c : Call} {r : Result} (σ : State) → Did σ c r → length r.state.mem ≡ length σ.mem
+pub did-length : {c : Call} (σ : State) {r : Result} → Did σ c r → length r.state.mem ≡ length σ.mem
 unfolding untouched offer_at open_at pass land
 did-length σ lacking = refl
 did-length σ (stale t h w) = refl
@@ -200,7 +200,7 @@ free-set : (l : List Slot) (i : ℕ) (x : Slot) → i < length l → free (set l
 unfolding free
 free-set l i x h = count_set is_free l i x free_slot h
 
-pub did-count : {c : Call} {r : Result} (σ : State) → Good σ → Did σ c r
+pub did-count : {c : Call} (σ : State) {r : Result} → Good σ → Did σ c r
     → free r.state.table.slots + r.opens ≡ free σ.table.slots + r.ends
 unfolding untouched offer_at open_at pass land with_slots
 did-count σ G lacking = refl
@@ -254,7 +254,7 @@ pub chunk-len : (σ : State) (i : ℕ) → Good σ → i < 8 → length (chunk i
 chunk-len σ i G h = length-chunk i σ.mem (omega (arith, G.room))
 
 -- LAW 1. A call that brings no acceptable part under k leaves k's slot and its memory, unless age ends it.
-pub did-other : {c : Call} {r : Result} (k : Key) (σ : State) (i : ℕ) (s : Slot) (b : List ℕ) → Good σ → Did σ c r → Holding k σ i s b
+pub did-other : {c : Call} (k : Key) (σ : State) {r : Result} (i : ℕ) (s : Slot) (b : List ℕ) → Good σ → Did σ c r → Holding k σ i s b
     → comes k c ≡ [] → ((t : ℕ) → At c t → t < s.since + 60000) → Holding k r.state i s b
 unfolding untouched offer_at open_at pass with_slots
 did-other k σ i s b G lacking H no_part y = H
@@ -387,7 +387,7 @@ at_after (other u a) n t e = e
 at_after (from u g a) n t e = e
 at_after (part u p) n t e = e
 
-pub did-last : {c : Call} {r : Result} (σ : State) → Did σ c r → σ.table.last ≤ after σ.table.last c
+pub did-last : {c : Call} (σ : State) {r : Result} → Did σ c r → σ.table.last ≤ after σ.table.last c
     → r.state.table.last ≡ after σ.table.last c
 unfolding untouched offer_at open_at pass land with_slots
 did-last σ lacking h = refl

@@ -11,6 +11,7 @@
 // such a gateway can always open one, that openings less endings, plus free slots, is 8, and that each byte handed
 // out from a slot, a computed checksum aside, is that of a part taken under its key since its opening.
 #![tactic(auto)]
+
 pub mod part;
 pub mod slot;
 pub mod table;

@@ -6,6 +6,7 @@
 // here in the order of the scope document, "Expansion and the slot table": 7 and 8 are judged, the time is taken, the
 // sender is looked for among the gateways, the payload is read, and a part goes to a slot.
 #![tactic(auto)]
+
 ghost use Rattle.std.specs.Prelude.{◌≡◌, ◌≤◌, length, eqb};
 ghost use Rattle.octets.specs.Read.{choose};
 ghost use Rattle.incoming.specs.Incoming.{of_arrival, bytes_of};

@@ -7,6 +7,7 @@
 // Which number is which is in specs/Words.antt, and `table_in` there is the table that the numbers are: the contracts
 // speak of it, and two runs of numbers that are one table are one (proofs/Unique.antt).
 #![tactic(auto)]
+
 pub mod read;
 pub mod search;
 pub mod write;

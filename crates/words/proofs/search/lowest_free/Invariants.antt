@@ -1,0 +1,13 @@
+use Prim.Native.Nat.{◌≤◌, ◌+◌, ◌-◌}
+use mathlib.Core.Path.{◌≡◌}
+use lib.ListN.{drop}
+use Rattle.reassembly.specs.Lists.{first_at}
+use Rattle.reassembly.specs.Slots.{is_free}
+use Rattle.words.specs.Words.{table_in}
+use Rattle.words.proofs.search.lowest_free.Given as goal
+
+abbrev pub invariant-loop-i : goal.invariant-loop-i
+invariant-loop-i l = (l.i ≤ 8) × (first_at is_free (table_in l.t).slots ≡ l.i + first_at is_free (drop l.i (table_in l.t).slots))
+
+abbrev pub decreases-loop-i : goal.decreases-loop-i
+decreases-loop-i l = 8 - l.i
