@@ -5,6 +5,7 @@
 // specs/Slice.antt: 8 each, in order). Underneath, `with_context` picks one struct from the slice and calls the covered
 // function on flat values.
 #![tactic(auto)]
+
 ghost use Rattle.std.specs.Prelude.{◌≡◌, ◌≤◌, min, replicate};
 ghost use Rattle.iphc.specs.Iphc.{iphc};
 ghost use Rattle.iphc.specs.Answers.{of_parsed};

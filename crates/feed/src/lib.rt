@@ -12,6 +12,7 @@
 // changes nothing; proofs/Refused.antt that a run with refused calls is the run without them. No public function
 // asks anything of its caller.
 #![tactic(auto)]
+
 pub mod reader;
 
 pub use reader::{Fed, Found, Reader, Status, chunk, end};

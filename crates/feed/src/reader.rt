@@ -1,10 +1,9 @@
 // A capture that comes in chunks (the change request "Captures over the service cable").
-ghost use Rattle.std.specs.Prelude.{◌≡◌, ◌≤◌, min, length};
+ghost use Rattle.std.specs.Prelude.{◌≡◌, ◌≤◌, ◌++◌, min, length, take, drop};
 ghost use Rattle.feed.specs.Reading.{read_on};
 ghost use Rattle.feed.specs.Feed.{padded, starting, going_on, stopped, declined, answer_of, taken, after_chunk};
 ghost use Rattle.feed.specs.Feed.{after_end};
 
-use bytes::copy;
 use capture::block::{BLOCK, Judged, judge};
 use octets::refusal::Refusal;
 
@@ -63,6 +62,14 @@ impl Reader {
             status: Status::Live,
         }
     }
+}
+
+// Copies the bytes to the front of others.
+fn copy(from: &[u8], to: &mut [u8])
+    requires { length from.now ≤ length to.old }
+    ensures { to.new ≡ take (length from.now) from.now ++ drop (length from.now) to.old }
+{
+    to[..from.len()].copy_from_slice(from);
 }
 
 // The bytes of a block that has begun, and zeros.

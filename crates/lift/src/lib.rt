@@ -7,6 +7,7 @@
 //
 // - `send`: what we send, `lift_cut` and `lift_frames`.
 #![tactic(auto)]
+
 pub mod send;
 
 ghost use Rattle.std.specs.Prelude.{◌≡◌, ◌<◌, ◌≤◌};

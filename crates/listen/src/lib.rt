@@ -9,6 +9,7 @@
 // the lent memory, the output and the text of `hear` and `hear_all` are, on every input, those of `hear_block` and
 // `hear_all`. No public function asks anything of its caller.
 #![tactic(auto)]
+
 pub mod ear;
 pub mod line;
 

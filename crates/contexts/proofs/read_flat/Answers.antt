@@ -1,0 +1,18 @@
+use native.Mathlib.Omega.{arith}
+use mathlib.Core.Path.{◌≡◌}
+use lib.ListN.{length}
+use Rattle.reassembly.proofs.Lists.{unmapped}
+use Rattle.contexts.proofs.Laws.{bytes-of}
+use Rattle.contexts.proofs.read_flat.Goals as goal
+
+pub slice_bounds-read-end : goal.slice_bounds-read-end
+slice_bounds-read-end c =
+    let b = c in
+    let n : length b.args.f.bytes ≡ 128 = b.well_formed.1.1.1.1.0.1.1.0.1.0.1 in
+    omega (arith, n, c.at_most_128-n.ensures.1)
+
+pub returns : goal.returns
+returns c =
+    let b = c in
+    let n : length b.args.f.bytes ≡ 128 = b.well_formed.1.1.1.1.0.1.1.0.1.0.1 in
+    rw (bytes-of b.args.f _ n c.at_most_128-n.ensures.0) at c.read.ensures
