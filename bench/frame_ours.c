@@ -1,4 +1,4 @@
-// The receiver in two uses: the library's call lift_receive (target/staticlib/liblift.a, as `rt staticlib lift` writes it),
+// The receiver in two uses: the library's call lift_receive (target/staticlib/liblift.a, as examples/archive writes it),
 // and a loop in Rattle that keeps its table, which bench/build compiles.
 #include "frames.h"
 

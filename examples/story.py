@@ -1,6 +1,6 @@
 """What became of each frame of a capture, for `picture` and `summary`.
 
-The frames go to the program `calls` (proved and built by `rt check calls`, made runnable by tests/runnable), which says after each what
+The frames go to the program `calls` (built by tests/build, made runnable by tests/runnable), which says after each what
 it answered and which slots are open. Where `calls` is not built, `tests/model.py table`, the second reading of the
 requirements, answers the same lines. Source, tag and place of a frame are read by tests/model.py.
 """

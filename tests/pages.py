@@ -66,11 +66,14 @@ def refusals():
 
 
 def theorems():
-    """A theorem that docs/PROMISES.md names (words joined by hyphens) stands in a proof or definition."""
-    known = set()
+    """A theorem that docs/PROMISES.md names (words joined by hyphens or underscores) stands in a proof or definition. So does any other
+    such name, or in code, in lift.h or as that of a wrong program."""
+    known = {file.stem for file in TOP.glob("crates/*/must-fail/*.edit")}
     for file in TOP.glob("crates/*/*/**/*.antt"):
         known.update(re.findall(r"[^\s(){},;:.«»]+", file.read_text()))
-    for name in re.findall(r"`([a-z0-9→]+(?:-[a-z0-9→]+)+)`", (TOP / "docs/PROMISES.md").read_text()):
+    for file in [*TOP.glob("crates/*/src/**/*.rt"), TOP / "include/lift.h", TOP / "tests/wrong-programs.txt"]:
+        known.update(re.findall(r"\w+", file.read_text()))
+    for name in re.findall(r"`([a-z0-9→]+(?:[-_][a-z0-9→]+)+)`", (TOP / "docs/PROMISES.md").read_text()):
         expect(name in known, f"PROMISES.md names the theorem {name}")
 
 
@@ -81,7 +84,7 @@ def groups():
         if line.startswith("# ") and ":" not in line:
             group = line[2:]
         elif not line.startswith("#") and line:
-            listed[line.partition(":")[0]] = group
+            listed[line.partition(":")[0].split()[0]] = group
     rows = re.findall(r"^\| (\w+) \| ((?:`\w+`(?:, )?)+) \|", (TOP / "docs/ARCHITECTURE.md").read_text(), re.M)
     told = {crate: name for name, crates in rows for crate in re.findall(r"\w+", crates)}
     for crate in sorted(set(told) | set(listed)):

@@ -1,4 +1,4 @@
-// Links liblift.a: from the folder LIFT_LIB_DIR, or else from where `rt staticlib lift` writes it in this repository.
+// Links liblift.a: from the folder LIFT_LIB_DIR, or else from where `examples/archive` writes it in this repository.
 use std::{env, path::PathBuf};
 
 fn main() {
@@ -7,7 +7,7 @@ fn main() {
     let folder = env::var_os("LIFT_LIB_DIR").map_or(here.join("../../target/staticlib"), PathBuf::from);
     let archive = folder.join("liblift.a");
     if !archive.exists() {
-        println!("cargo::error=no {}: run `rt staticlib lift`, or say in LIFT_LIB_DIR where it is", archive.display());
+        println!("cargo::error=no {}: run `examples/archive`, or say in LIFT_LIB_DIR where it is", archive.display());
         return;
     }
     println!("cargo::rerun-if-changed={}", archive.display());

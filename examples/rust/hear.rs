@@ -1,7 +1,7 @@
 //! hear CAPTURE: as examples/c/hear.c, from Rust, over the crate in bindings/rust. Nothing here allocates: the table, its
 //! memory and the output are one static, as in firmware; `std` only reads the file and prints.
 //!
-//!     rt staticlib lift && cargo run --offline --manifest-path examples/rust/Cargo.toml examples/patch.cap
+//!     examples/archive && cargo run --offline --manifest-path examples/rust/Cargo.toml examples/patch.cap
 use lift::{Gateway, OUT_BYTES, Outcome, Table};
 use std::{env, fs::File, io::Read, process::ExitCode, sync::Mutex};
 
