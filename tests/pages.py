@@ -37,12 +37,12 @@ def pictures():
 
 
 def paths():
-    """A path that a page names is there, from the repository's root or from the page; `target/` is built."""
+    """A path that a page names is there, from the repository's root or from the page; `target/` and a crate's `out/` are built."""
     pages = [TOP / "README.md", *TOP.glob("docs/*.md"), *TOP.glob("*/README.md"), TOP / "bench/LOG.md"]
     roots = "bench|bindings|crates|docs|examples|include|oracle|tests"
     for page in pages:
         for path in re.findall(rf"(?<![\w/.])((?:{roots})/[\w./-]*[\w/])", page.read_text()):
-            expect((TOP / path).exists() or (page.parent / path).exists() or "/X" in path, f"{page.relative_to(TOP)} names {path}")
+            expect((TOP / path).exists() or (page.parent / path).exists() or "/X" in path or "/out/" in path, f"{page.relative_to(TOP)} names {path}")
         for path in re.findall(r"\]\((?!http)([^)#]+)", page.read_text()):
             expect((page.parent / path).exists(), f"{page.relative_to(TOP)} links {path}")
 
