@@ -244,9 +244,6 @@ fn turn<R: Read, W: Write>(
     if n == 0 {
         return last(writer, input, have, skip, a, out);
     }
-    if input.len() - have < n {
-        return stopped();
-    }
     let all = have + n;
     let d = lines(writer, field::upto(input, all), have, skip, a, out);
     rest(writer, input, all, d, out)
