@@ -22,8 +22,8 @@ use text::{field, line, print};
 // The most bytes of an answer: 512 bytes in hexadecimal and a few words, with room to spare.
 const ANSWER: usize = 4096;
 
-// The room for what is read, for what is written and for the bytes of a line's fields, each: large, since a read or a
-// write of few bytes costs as much as one of many.
+// The room for what is read, for what is written and for what the lines say, each: large, since a read or a write of
+// few bytes costs as much as one of many.
 const ROOM: usize = 65536;
 
 // What is kept from one read to the next: how many bytes of an unfinished line stand at the input's start, whether that
