@@ -1,6 +1,5 @@
 // What the lines do.
 use super::{answer, fields};
-use check::same;
 use ieee802154::{Address, PanField};
 use reassembly::{Gateway, Listed};
 use receiver::receive;
@@ -196,10 +195,10 @@ pub fn answer_line(
     }
     let name = field::upto(line, find(line, 0, b' '));
     let next = name.len() + 1;
-    if same(name, b"gateways") {
+    if name == b"gateways".as_slice() {
         return gateways(line, next, session, out);
     }
-    if same(name, b"call") {
+    if name == b"call".as_slice() {
         let r = read_request(line, next, scratch);
         return call(session, r, scratch, lent, datagram, out);
     }

@@ -5,15 +5,21 @@
 // - `commands`: what the lines `gateways` and `call` do. `fields`: addresses in a line. `answer`: the parts of an
 //   answer.
 #![tactic(auto)]
+
 mod answer;
 mod commands;
 mod fields;
 
 use commands::Session;
+use std::io::{Read, Write};
 use text::{field, line, print};
 
 // What an answer takes at most beyond the line itself: 2,047 bytes in hexadecimal, eight keys and a few words.
 const LONGEST: usize = 8192;
+
+// The room for what is read, for what is written and for what the lines say, each: large, since a read or a write of
+// few bytes costs as much as one of many.
+const ROOM: usize = 65536;
 
 // The input that is read and not answered yet stands from `start` to `have`; no line ends before `from`. The beginning
 // of a line that was too long is gone and answered: the rest of it is to be skipped.
@@ -31,6 +37,14 @@ struct Progress {
     unread: Unread,
     session: Session,
     more: bool,
+}
+
+// Room for the lines: for what a call says, for the memory that it lends and for the datagram that comes out.
+#[derive(Drop)]
+struct Rooms {
+    scratch: [u8; ROOM],
+    lent: [u8; ROOM],
+    datagram: [u8; ROOM],
 }
 
 // The end of a run.
@@ -69,10 +83,15 @@ fn is_near_full(out: &[u8], to: usize, len: usize) -> bool {
     left - LONGEST < len
 }
 
+// Writes the bytes out; answers whether all of them went.
+fn send<W: Write>(writer: &mut W, bytes: &[u8]) -> bool {
+    writer.write_all(bytes).is_ok()
+}
+
 // Writes the output out where it is near full; answers the place in it, and NONE where the write failed.
-fn make_room(out: &[u8], to: usize, len: usize) -> usize {
+fn make_room<W: Write>(writer: &mut W, out: &[u8], to: usize, len: usize) -> usize {
     if is_near_full(out, to, len) {
-        if io::write_all(1, field::upto(out, to)) {
+        if send(writer, field::upto(out, to)) {
             return 0;
         }
         return field::NONE;
@@ -81,7 +100,7 @@ fn make_room(out: &[u8], to: usize, len: usize) -> usize {
 }
 
 // The input is full and holds no end of a line: the line is answered once, and what is there of it forgotten.
-fn too_long(u: Unread, session: Session) -> Progress {
+fn too_long<W: Write>(writer: &mut W, u: Unread, session: Session) -> Progress {
     let unread = Unread {
         start: 0,
         from: 0,
@@ -91,7 +110,7 @@ fn too_long(u: Unread, session: Session) -> Progress {
     if u.skip {
         return going(unread, session, 0);
     }
-    if io::write_all(1, b"bad long\n") {
+    if send(writer, b"bad long\n") {
         return going(unread, session, 0);
     }
     stopped(session)
@@ -99,16 +118,19 @@ fn too_long(u: Unread, session: Session) -> Progress {
 
 // Reads more behind the first `n` bytes of the input, which hold no end of a line. Where nothing comes any more, the
 // last line gets the end that it lacks.
-fn read_on(input: &mut [u8], n: usize, skip: bool, session: Session) -> Progress {
+fn read_on<R: Read>(
+    reader: &mut R,
+    input: &mut [u8],
+    n: usize,
+    skip: bool,
+    session: Session,
+) -> Progress {
     if input.len() <= n {
         return stopped(session);
     }
-    let got = libc::read(0, &mut input[n..]);
-    if 0 < got {
-        let more = io::count(got, input);
-        if input.len() - n < more {
-            return stopped(session);
-        }
+    // A read that fails is the end of the input.
+    let more = reader.read(&mut input[n..]).unwrap_or(0);
+    if 0 < more {
         let unread = Unread {
             start: 0,
             from: n,
@@ -131,12 +153,18 @@ fn read_on(input: &mut [u8], n: usize, skip: bool, session: Session) -> Progress
 }
 
 // No line ends in what was read: the answers go out, what is left moves to the front, and more is read.
-fn refill(input: &mut [u8], r: Progress, out: &[u8]) -> Progress {
+fn refill<R: Read, W: Write>(
+    reader: &mut R,
+    writer: &mut W,
+    input: &mut [u8],
+    r: Progress,
+    out: &[u8],
+) -> Progress {
     let session = r.session;
     let u = r.unread;
     let start = u.start;
     let have = u.have;
-    if !io::write_all(1, field::upto(out, session.to)) {
+    if !send(writer, field::upto(out, session.to)) {
         return stopped(session);
     }
     if have < start {
@@ -147,10 +175,10 @@ fn refill(input: &mut [u8], r: Progress, out: &[u8]) -> Progress {
     }
     let n = have - start;
     if n == input.len() {
-        return too_long(u, session);
+        return too_long(writer, u, session);
     }
     line::shift(&mut input[0..have], start);
-    read_on(input, n, u.skip, session)
+    read_on(reader, input, n, u.skip, session)
 }
 
 // How many bytes stand from one place to another.
@@ -159,19 +187,19 @@ fn between(start: usize, end: usize) -> usize {
 }
 
 // Answers a line, passes over the rest of one that was too long, or reads once where none has ended.
-fn step(
+fn step<R: Read, W: Write>(
+    reader: &mut R,
+    writer: &mut W,
     input: &mut [u8],
     r: Progress,
-    scratch: &mut [u8],
-    lent: &mut [u8],
-    datagram: &mut [u8],
+    rooms: &mut Rooms,
     out: &mut [u8],
 ) -> Progress {
     let u = r.unread;
     let have = u.have;
     let end = line::find(field::upto(input, have), u.from, b'\n');
     if have <= end {
-        return refill(input, r, out);
+        return refill(reader, writer, input, r, out);
     }
     let unread = Unread {
         start: end + 1,
@@ -184,9 +212,16 @@ fn step(
         return going(unread, session, session.to);
     }
     let line = field::part(input, u.start, between(u.start, end));
-    let to = make_room(out, session.to, line.len());
+    let to = make_room(writer, out, session.to, line.len());
     let before = session.moved_to(to);
-    let after = commands::answer_line(line, before, scratch, lent, datagram, out);
+    let after = commands::answer_line(
+        line,
+        before,
+        &mut rooms.scratch,
+        &mut rooms.lent,
+        &mut rooms.datagram,
+        out,
+    );
     let session = after.moved_to(print::put(out, after.to, b'\n'));
     Progress {
         unread,
@@ -196,7 +231,13 @@ fn step(
 }
 
 // Nothing says that the input ends, so the steps are counted down from a number that no run uses up.
-fn run(input: &mut [u8], scratch: &mut [u8], lent: &mut [u8], datagram: &mut [u8], out: &mut [u8]) {
+fn run<R: Read, W: Write>(
+    reader: &mut R,
+    writer: &mut W,
+    input: &mut [u8],
+    rooms: &mut Rooms,
+    out: &mut [u8],
+) {
     let session = Session::start();
     let unread = Unread {
         start: 0,
@@ -207,7 +248,7 @@ fn run(input: &mut [u8], scratch: &mut [u8], lent: &mut [u8], datagram: &mut [u8
     let mut r = going(unread, session, 0);
     let mut steps = u64::MAX;
     while 0 < steps {
-        r = step(input, r, scratch, lent, datagram, out);
+        r = step(reader, writer, input, r, rooms, out);
         if !r.more {
             return;
         }
@@ -215,11 +256,15 @@ fn run(input: &mut [u8], scratch: &mut [u8], lent: &mut [u8], datagram: &mut [u8
     }
 }
 
-fn main() {
-    let mut input = io::large_buffer();
-    let mut scratch = io::large_buffer();
-    let mut lent = io::large_buffer();
-    let mut datagram = io::large_buffer();
-    let mut out = io::large_buffer();
-    run(&mut input, &mut scratch, &mut lent, &mut datagram, &mut out);
+fn main(rt: HostRuntime) {
+    let mut input = [0u8; ROOM];
+    let mut rooms = Rooms {
+        scratch: [0; ROOM],
+        lent: [0; ROOM],
+        datagram: [0; ROOM],
+    };
+    let mut out = [0u8; ROOM];
+    let mut reader = rt.stdin();
+    let mut writer = rt.stdout();
+    run(&mut reader, &mut writer, &mut input, &mut rooms, &mut out);
 }

@@ -1,6 +1,5 @@
 // What the lines do.
 use super::answer;
-use check::same;
 use feed::{Fed, Reader, chunk, end};
 use text::line::find;
 use text::{field, print};
@@ -61,13 +60,13 @@ pub fn answer_line(
         };
     }
     let name = field::upto(line, find(line, 0, b' '));
-    if same(name, b"chunk") {
+    if name == b"chunk".as_slice() {
         return take(line, name.len() + 1, reader, scratch, out, to);
     }
-    if same(line, b"end") {
+    if line == b"end".as_slice() {
         return told(end(reader), out, to);
     }
-    if same(line, b"new") {
+    if line == b"new".as_slice() {
         let begun = Reader::new();
         return Done {
             reader: begun,

@@ -1,4 +1,5 @@
 // Lines out of what is read: where they begin and end, and how more is read.
+use std::io::{Read, Write};
 use text::{field, line};
 
 // What an answer takes at most beyond the line itself: six frames of 127 bytes in hexadecimal with their times, and a
@@ -46,10 +47,15 @@ fn is_near_full(out: &[u8], to: usize, len: usize) -> bool {
     left - LONGEST < len
 }
 
+// Writes the bytes out; answers whether all of them went.
+fn send<W: Write>(sink: &mut W, bytes: &[u8]) -> bool {
+    sink.write_all(bytes).is_ok()
+}
+
 // Writes the output out where it is near full; answers the place in it, and NONE where the write failed.
-pub fn make_room(out: &[u8], to: usize, len: usize) -> usize {
+pub fn make_room<W: Write>(sink: &mut W, out: &[u8], to: usize, len: usize) -> usize {
     if is_near_full(out, to, len) {
-        if io::write_all(1, field::upto(out, to)) {
+        if send(sink, field::upto(out, to)) {
             return 0;
         }
         return field::NONE;
@@ -76,11 +82,11 @@ pub fn behind(u: Unread, end: usize, more: bool) -> Unread {
 }
 
 // The input is full and holds no end of a line: the line is answered once, and what is there of it forgotten.
-fn too_long(u: Unread) -> Unread {
+fn too_long<W: Write>(sink: &mut W, u: Unread) -> Unread {
     let more = if u.skip {
         true
     } else {
-        io::write_all(1, b"bad long\n")
+        send(sink, b"bad long\n")
     };
     Unread {
         start: 0,
@@ -93,16 +99,13 @@ fn too_long(u: Unread) -> Unread {
 
 // Reads more behind the first `n` bytes of the input, which hold no end of a line. Where nothing comes any more, the
 // last line gets the end that it lacks.
-fn read_on(read: &mut [u8], n: usize, skip: bool) -> Unread {
+fn read_on<R: Read>(source: &mut R, read: &mut [u8], n: usize, skip: bool) -> Unread {
     if read.len() <= n {
         return Unread::STOPPED;
     }
-    let got = libc::read(0, &mut read[n..]);
-    if 0 < got {
-        let more = io::count(got, read);
-        if read.len() - n < more {
-            return Unread::STOPPED;
-        }
+    // A read that fails is the end of the input.
+    let more = source.read(&mut read[n..]).unwrap_or(0);
+    if 0 < more {
         return Unread {
             start: 0,
             from: n,
@@ -125,10 +128,17 @@ fn read_on(read: &mut [u8], n: usize, skip: bool) -> Unread {
 }
 
 // No line ends in what was read: the answers go out, what is left moves to the front, and more is read.
-pub fn refill(read: &mut [u8], u: Unread, out: &[u8], to: usize) -> Unread {
+pub fn refill<R: Read, W: Write>(
+    source: &mut R,
+    sink: &mut W,
+    read: &mut [u8],
+    u: Unread,
+    out: &[u8],
+    to: usize,
+) -> Unread {
     let start = u.start;
     let have = u.have;
-    if !io::write_all(1, field::upto(out, to)) {
+    if !send(sink, field::upto(out, to)) {
         return Unread::STOPPED;
     }
     if have < start {
@@ -139,8 +149,8 @@ pub fn refill(read: &mut [u8], u: Unread, out: &[u8], to: usize) -> Unread {
     }
     let n = have - start;
     if n == read.len() {
-        return too_long(u);
+        return too_long(sink, u);
     }
     line::shift(&mut read[0..have], start);
-    read_on(read, n, u.skip)
+    read_on(source, read, n, u.skip)
 }

@@ -1,7 +1,6 @@
 // What the lines do. Each puts its answer at a place of the output and answers the place after it.
 use super::fields;
 use super::room::{MOST, fill, is_filled};
-use check::same;
 use cutting::{Counted, Link, frame, frames};
 use octets::refusal::Refusal;
 use octets::write::Written;
@@ -111,10 +110,10 @@ pub fn answer_line(
     }
     let name = field::upto(line, find(line, 0, b' '));
     let next = name.len() + 1;
-    if same(name, b"cut") {
+    if name == b"cut".as_slice() {
         return cut(line, next, datagram, room, out, to);
     }
-    if same(name, b"frames") {
+    if name == b"frames".as_slice() {
         return count(line, next, datagram, out, to);
     }
     bad(out, to)

@@ -5,14 +5,20 @@
 // - `commands`: what the lines `cut` and `frames` do.
 // - `fields`: what they say beside the datagram. `room`: what a frame is written into.
 #![tactic(auto)]
+
 mod commands;
 mod fields;
 mod room;
 
+use std::io::{Read, Write};
 use text::{field, line, print};
 
 // What an answer takes at most beyond the line itself: the largest room in hexadecimal and a few words.
 const LONGEST: usize = 33000;
+
+// The room for what is read, for what is written and for what the lines say, each: large, since a read or a write of
+// few bytes costs as much as one of many.
+const ROOM: usize = 65536;
 
 // The input that is read and not answered yet stands from `start` to `have`; no line ends before `from`. The
 // beginning of a line that was too long is gone and answered: the rest of it is to be skipped. Then the place in
@@ -48,6 +54,13 @@ impl Progress {
     };
 }
 
+// Room for what the lines say: for a datagram, and for a frame of it.
+#[derive(Drop)]
+struct Lent {
+    datagram: [u8; ROOM],
+    room: [u8; ROOM],
+}
+
 // A run that goes on with so many bytes at the front of the input, of which the first `from` hold no end of a line.
 fn going(from: usize, have: usize, skip: bool) -> Progress {
     Progress {
@@ -72,10 +85,15 @@ fn is_near_full(out: &[u8], to: usize, len: usize) -> bool {
     left - LONGEST < len
 }
 
+// Writes the bytes out; answers whether all of them went.
+fn send<W: Write>(writer: &mut W, bytes: &[u8]) -> bool {
+    writer.write_all(bytes).is_ok()
+}
+
 // Writes the output out where it is near full; answers the place in it, and NONE where the write failed.
-fn make_room(out: &[u8], to: usize, len: usize) -> usize {
+fn make_room<W: Write>(writer: &mut W, out: &[u8], to: usize, len: usize) -> usize {
     if is_near_full(out, to, len) {
-        if io::write_all(1, field::upto(out, to)) {
+        if send(writer, field::upto(out, to)) {
             return 0;
         }
         return field::NONE;
@@ -84,11 +102,11 @@ fn make_room(out: &[u8], to: usize, len: usize) -> usize {
 }
 
 // The input is full and holds no end of a line: the line is answered once, and what is there of it forgotten.
-fn too_long(skip: bool) -> Progress {
+fn too_long<W: Write>(writer: &mut W, skip: bool) -> Progress {
     if skip {
         return going(0, 0, true);
     }
-    if io::write_all(1, b"bad long\n") {
+    if send(writer, b"bad long\n") {
         return going(0, 0, true);
     }
     Progress::STOPPED
@@ -96,16 +114,13 @@ fn too_long(skip: bool) -> Progress {
 
 // Reads more behind the first `n` bytes of the input, which hold no end of a line. Where nothing comes any more,
 // the last line gets the end that it lacks.
-fn read_on(input: &mut [u8], n: usize, skip: bool) -> Progress {
+fn read_on<R: Read>(reader: &mut R, input: &mut [u8], n: usize, skip: bool) -> Progress {
     if input.len() <= n {
         return Progress::STOPPED;
     }
-    let got = libc::read(0, &mut input[n..]);
-    if 0 < got {
-        let more = io::count(got, input);
-        if input.len() - n < more {
-            return Progress::STOPPED;
-        }
+    // A read that fails is the end of the input.
+    let more = reader.read(&mut input[n..]).unwrap_or(0);
+    if 0 < more {
         return going(n, n + more, skip);
     }
     if n == 0 {
@@ -116,10 +131,16 @@ fn read_on(input: &mut [u8], n: usize, skip: bool) -> Progress {
 }
 
 // No line ends in what was read: the answers go out, what is left moves to the front, and more is read.
-fn refill(input: &mut [u8], r: Progress, out: &[u8]) -> Progress {
+fn refill<R: Read, W: Write>(
+    reader: &mut R,
+    writer: &mut W,
+    input: &mut [u8],
+    r: Progress,
+    out: &[u8],
+) -> Progress {
     let start = r.start;
     let have = r.have;
-    if !io::write_all(1, field::upto(out, r.to)) {
+    if !send(writer, field::upto(out, r.to)) {
         return Progress::STOPPED;
     }
     if have < start {
@@ -130,10 +151,10 @@ fn refill(input: &mut [u8], r: Progress, out: &[u8]) -> Progress {
     }
     let n = have - start;
     if n == input.len() {
-        return too_long(r.skip);
+        return too_long(writer, r.skip);
     }
     line::shift(&mut input[0..have], start);
-    read_on(input, n, r.skip)
+    read_on(reader, input, n, r.skip)
 }
 
 // How many bytes stand from one place to another.
@@ -142,17 +163,18 @@ fn between(start: usize, end: usize) -> usize {
 }
 
 // Answers a line, passes over the rest of one that was too long, or reads once where none has ended.
-fn step(
+fn step<R: Read, W: Write>(
+    reader: &mut R,
+    writer: &mut W,
     input: &mut [u8],
     r: Progress,
-    datagram: &mut [u8],
-    room: &mut [u8],
+    lent: &mut Lent,
     out: &mut [u8],
 ) -> Progress {
     let have = r.have;
     let end = line::find(field::upto(input, have), r.from, b'\n');
     if have <= end {
-        return refill(input, r, out);
+        return refill(reader, writer, input, r, out);
     }
     let next = end + 1;
     if r.skip {
@@ -166,8 +188,8 @@ fn step(
         };
     }
     let line = field::part(input, r.start, between(r.start, end));
-    let to = make_room(out, r.to, line.len());
-    let n = commands::answer_line(line, datagram, room, out, to);
+    let to = make_room(writer, out, r.to, line.len());
+    let n = commands::answer_line(line, &mut lent.datagram, &mut lent.room, out, to);
     Progress {
         start: next,
         from: next,
@@ -179,11 +201,17 @@ fn step(
 }
 
 // Nothing says that the input ends, so the steps are counted down from a number that no run uses up.
-fn run(input: &mut [u8], datagram: &mut [u8], room: &mut [u8], out: &mut [u8]) {
+fn run<R: Read, W: Write>(
+    reader: &mut R,
+    writer: &mut W,
+    input: &mut [u8],
+    lent: &mut Lent,
+    out: &mut [u8],
+) {
     let mut r = Progress::STARTED;
     let mut steps = u64::MAX;
     while 0 < steps {
-        r = step(input, r, datagram, room, out);
+        r = step(reader, writer, input, r, lent, out);
         if !r.more {
             return;
         }
@@ -191,10 +219,14 @@ fn run(input: &mut [u8], datagram: &mut [u8], room: &mut [u8], out: &mut [u8]) {
     }
 }
 
-fn main() {
-    let mut input = io::large_buffer();
-    let mut datagram = io::large_buffer();
-    let mut room = io::large_buffer();
-    let mut out = io::large_buffer();
-    run(&mut input, &mut datagram, &mut room, &mut out);
+fn main(rt: HostRuntime) {
+    let mut input = [0u8; ROOM];
+    let mut lent = Lent {
+        datagram: [0; ROOM],
+        room: [0; ROOM],
+    };
+    let mut out = [0u8; ROOM];
+    let mut reader = rt.stdin();
+    let mut writer = rt.stdout();
+    run(&mut reader, &mut writer, &mut input, &mut lent, &mut out);
 }

@@ -1,7 +1,6 @@
 // The commands, by name.
 use super::room::Emitted;
 use super::{answer, compressed, fragment, mac, nhc, relays, room};
-use check::same;
 use text::field;
 
 // `Unknown` is answered `bad`, as a command whose fields are not of their kinds is.
@@ -27,10 +26,10 @@ enum Command {
 
 // The first of two commands, if the name is its, or the second.
 fn either(name: &[u8], first: &[u8], a: Command, second: &[u8], b: Command) -> Command {
-    if same(name, first) {
+    if name == first {
         return a;
     }
-    if same(name, second) {
+    if name == second {
         return b;
     }
     Command::Unknown
@@ -94,7 +93,7 @@ fn named_on(name: &[u8]) -> Command {
 
 // The commands that share their first byte with no other.
 fn alone(name: &[u8]) -> Command {
-    if same(name, b"key") {
+    if name == b"key".as_slice() {
         return Command::Key;
     }
     either(

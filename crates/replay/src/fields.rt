@@ -2,7 +2,6 @@
 // from.
 ghost use Rattle.std.specs.Prelude.{◌≤◌};
 
-use check::same;
 use ieee802154::{Address, AddressField, Pan, PanField};
 use iphc::{FlowLabel, LabelField};
 use octets::field::{ByteField, WordField};
@@ -245,10 +244,10 @@ pub fn kind(line: &[u8], from: usize) -> FlagText {
     }
     let word = &line[from..end];
     let next = end + 1;
-    if same(word, b"first") {
+    if word == b"first".as_slice() {
         return FlagText { value: true, next };
     }
-    if same(word, b"next") {
+    if word == b"next".as_slice() {
         return FlagText { value: false, next };
     }
     FlagText {

@@ -5,6 +5,7 @@
 // - `commands`: the commands by name. `mac`, `fragment`, `nhc`, `compressed`, `relays`: what each does, by header.
 // - `fields`: the fields of a line. `answer`: the parts of an answer. `room`: what a writer writes into.
 #![tactic(auto)]
+
 mod answer;
 mod commands;
 mod compressed;
@@ -15,10 +16,15 @@ mod nhc;
 mod relays;
 mod room;
 
+use std::io::{Read, Write};
 use text::{field, line, print};
 
 // The most bytes of an answer: 512 bytes in hexadecimal and a few words, with room to spare.
 const ANSWER: usize = 4096;
+
+// The room for what is read, for what is written and for what the lines say, each: large, since a read or a write of
+// few bytes costs as much as one of many.
+const ROOM: usize = 65536;
 
 // What is kept from one read to the next: how many bytes of an unfinished line stand at the input's start, whether that
 // line is passed over, and whether to go on.
@@ -66,11 +72,16 @@ fn is_near_full(out: &[u8], to: usize, len: usize) -> bool {
     left - ANSWER < len
 }
 
+// Writes the bytes out; answers whether all of them went.
+fn send<W: Write>(writer: &mut W, bytes: &[u8]) -> bool {
+    writer.write_all(bytes).is_ok()
+}
+
 // Writes the output out where it is near full.
-fn drained(d: Done, out: &[u8], len: usize) -> Done {
+fn drained<W: Write>(writer: &mut W, d: Done, out: &[u8], len: usize) -> Done {
     let to = d.to;
     if is_near_full(out, to, len) {
-        let sent = io::write_all(1, field::upto(out, to));
+        let sent = send(writer, field::upto(out, to));
         return Done {
             start: d.start,
             skip: d.skip,
@@ -82,7 +93,14 @@ fn drained(d: Done, out: &[u8], len: usize) -> Done {
 }
 
 // Answers the line that ends at `end`, unless it is the end of one that was too long.
-fn ended(input: &[u8], end: usize, d: Done, a: &mut [u8], out: &mut [u8]) -> Done {
+fn ended<W: Write>(
+    writer: &mut W,
+    input: &[u8],
+    end: usize,
+    d: Done,
+    a: &mut [u8],
+    out: &mut [u8],
+) -> Done {
     let start = d.start;
     if input.len() <= end {
         return d;
@@ -99,7 +117,7 @@ fn ended(input: &[u8], end: usize, d: Done, a: &mut [u8], out: &mut [u8]) -> Don
             well: d.well,
         };
     }
-    let e = drained(d, out, end - start);
+    let e = drained(writer, d, out, end - start);
     let to = answered(&input[start..end], a, out, e.to);
     Done {
         start: next,
@@ -110,7 +128,14 @@ fn ended(input: &[u8], end: usize, d: Done, a: &mut [u8], out: &mut [u8]) -> Don
 }
 
 // Answers the lines that end in the input. No line ends before `from`.
-fn lines(input: &[u8], from: usize, skip: bool, a: &mut [u8], out: &mut [u8]) -> Done {
+fn lines<W: Write>(
+    writer: &mut W,
+    input: &[u8],
+    from: usize,
+    skip: bool,
+    a: &mut [u8],
+    out: &mut [u8],
+) -> Done {
     let mut d = Done {
         start: 0,
         skip,
@@ -119,14 +144,21 @@ fn lines(input: &[u8], from: usize, skip: bool, a: &mut [u8], out: &mut [u8]) ->
     };
     let mut end = line::find(input, from, b'\n');
     while end < input.len() {
-        d = ended(input, end, d, a, out);
+        d = ended(writer, input, end, d, a, out);
         end = line::find(input, end + 1, b'\n');
     }
     d
 }
 
 // The last line, if it has no end.
-fn last(input: &[u8], have: usize, skip: bool, a: &mut [u8], out: &mut [u8]) -> Kept {
+fn last<W: Write>(
+    writer: &mut W,
+    input: &[u8],
+    have: usize,
+    skip: bool,
+    a: &mut [u8],
+    out: &mut [u8],
+) -> Kept {
     if skip {
         return stopped();
     }
@@ -134,7 +166,7 @@ fn last(input: &[u8], have: usize, skip: bool, a: &mut [u8], out: &mut [u8]) -> 
         return stopped();
     }
     let n = answered(field::upto(input, have), a, out, 0);
-    io::write_all(1, field::upto(out, n));
+    send(writer, field::upto(out, n));
     stopped()
 }
 
@@ -148,7 +180,7 @@ fn stopped() -> Kept {
 }
 
 // The input is full and holds no end of a line: the line is passed over, and answered once.
-fn too_long(d: Done, out: &mut [u8]) -> Kept {
+fn too_long<W: Write>(writer: &mut W, d: Done, out: &mut [u8]) -> Kept {
     if d.skip {
         return Kept {
             have: 0,
@@ -157,7 +189,7 @@ fn too_long(d: Done, out: &mut [u8]) -> Kept {
         };
     }
     let n = print::text(out, d.to, b"bad long\n");
-    let sent = io::write_all(1, field::upto(out, n));
+    let sent = send(writer, field::upto(out, n));
     Kept {
         have: 0,
         skip: true,
@@ -166,11 +198,11 @@ fn too_long(d: Done, out: &mut [u8]) -> Kept {
 }
 
 // What to do once the lines in the first `all` bytes are answered: the rest moves to the start.
-fn rest(input: &mut [u8], all: usize, d: Done, out: &mut [u8]) -> Kept {
+fn rest<W: Write>(writer: &mut W, input: &mut [u8], all: usize, d: Done, out: &mut [u8]) -> Kept {
     let start = d.start;
     if start == 0 {
         if input.len() <= all {
-            return too_long(d, out);
+            return too_long(writer, d, out);
         }
         return Kept {
             have: all,
@@ -185,7 +217,7 @@ fn rest(input: &mut [u8], all: usize, d: Done, out: &mut [u8]) -> Kept {
         return stopped();
     }
     line::shift(&mut input[0..all], start);
-    let sent = io::write_all(1, field::upto(out, d.to));
+    let sent = send(writer, field::upto(out, d.to));
     Kept {
         have: all - start,
         skip: d.skip,
@@ -194,27 +226,37 @@ fn rest(input: &mut [u8], all: usize, d: Done, out: &mut [u8]) -> Kept {
 }
 
 // Reads once and answers the lines that ended.
-fn turn(input: &mut [u8], a: &mut [u8], out: &mut [u8], k: Kept) -> Kept {
+fn turn<R: Read, W: Write>(
+    reader: &mut R,
+    writer: &mut W,
+    input: &mut [u8],
+    a: &mut [u8],
+    out: &mut [u8],
+    k: Kept,
+) -> Kept {
     let have = k.have;
     let skip = k.skip;
     if input.len() <= have {
         return stopped();
     }
-    let got = libc::read(0, &mut input[have..]);
-    if got <= 0 {
-        return last(input, have, skip, a, out);
-    }
-    let n = io::count(got, input);
-    if input.len() - have < n {
-        return stopped();
+    // A read that fails is the end of the input.
+    let n = reader.read(&mut input[have..]).unwrap_or(0);
+    if n == 0 {
+        return last(writer, input, have, skip, a, out);
     }
     let all = have + n;
-    let d = lines(field::upto(input, all), have, skip, a, out);
-    rest(input, all, d, out)
+    let d = lines(writer, field::upto(input, all), have, skip, a, out);
+    rest(writer, input, all, d, out)
 }
 
 // Nothing says that the input ends, so the turns are counted down from a number that no run uses up.
-fn run(input: &mut [u8], a: &mut [u8], out: &mut [u8]) {
+fn run<R: Read, W: Write>(
+    reader: &mut R,
+    writer: &mut W,
+    input: &mut [u8],
+    a: &mut [u8],
+    out: &mut [u8],
+) {
     let mut k = Kept {
         have: 0,
         skip: false,
@@ -222,7 +264,7 @@ fn run(input: &mut [u8], a: &mut [u8], out: &mut [u8]) {
     };
     let mut turns = u64::MAX;
     while 0 < turns {
-        k = turn(input, a, out, k);
+        k = turn(reader, writer, input, a, out, k);
         if !k.more {
             return;
         }
@@ -230,9 +272,11 @@ fn run(input: &mut [u8], a: &mut [u8], out: &mut [u8]) {
     }
 }
 
-fn main() {
-    let mut input = io::large_buffer();
-    let mut out = io::large_buffer();
-    let mut a = io::large_buffer();
-    run(&mut input, &mut a, &mut out);
+fn main(rt: HostRuntime) {
+    let mut input = [0u8; ROOM];
+    let mut out = [0u8; ROOM];
+    let mut a = [0u8; ROOM];
+    let mut reader = rt.stdin();
+    let mut writer = rt.stdout();
+    run(&mut reader, &mut writer, &mut input, &mut a, &mut out);
 }

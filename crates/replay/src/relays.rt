@@ -1,7 +1,6 @@
 // relay.parse and relay.emit.
 use super::room::Emitted;
 use super::{answer, fields, room};
-use check::same;
 use ieee802154::AddressField;
 use octets::cursor::Cursor;
 use octets::field::ByteField;
@@ -138,10 +137,10 @@ pub fn answer(
     out: &mut [u8],
     to: usize,
 ) -> usize {
-    if same(name, b"relay.parse") {
+    if name == b"relay.parse".as_slice() {
         return parse_line(line, from, a, out, to);
     }
-    if same(name, b"relay.emit") {
+    if name == b"relay.emit".as_slice() {
         return emit_line(line, from, a, out, to);
     }
     answer::bad(out, to)
