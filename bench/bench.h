@@ -5,7 +5,7 @@
 #include <stddef.h>
 #include <stdint.h>
 
-// A slice as compiled Rattle passes it: by a pointer to this.
+// A slice. Compiled Rattle takes one as two arguments, where it lies and how long it is.
 struct slice {
   uint8_t *at;
   size_t size;

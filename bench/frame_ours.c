@@ -4,8 +4,8 @@
 
 #include "../include/lift.h"
 
-uint64_t bench_frames(const struct slice *gateways, const struct slice *first, const struct slice *lap, uint64_t laps, const struct slice *bytes,
-                      const struct slice *mem, const struct slice *out);
+uint64_t bench_frames(const void *gateways, uint64_t numbers, const void *first, uint64_t first_count, const void *lap, uint64_t lap_count, uint64_t laps,
+                      const uint8_t *bytes, uint64_t bytes_size, uint8_t *mem, uint64_t mem_size, uint8_t *out, uint64_t out_size);
 
 static uint64_t begin(void *table, const uint64_t *gateways, size_t numbers) { return lift_begin_flat(table, gateways, numbers); }
 
@@ -18,9 +18,8 @@ static uint64_t receive_at(void *table, uint64_t time, const struct frame_call *
 
 static uint64_t run_looped(void *table, const struct frame_run *r, const struct lent *l) {
   (void)table;
-  struct slice gateways = {(uint8_t *)r->gateways, r->gateway_numbers};
-  struct slice first = {(uint8_t *)r->first.numbers, FRAME_NUMBERS * r->first.count}, lap = {(uint8_t *)r->lap.numbers, FRAME_NUMBERS * r->lap.count};
-  return bench_frames(&gateways, &first, &lap, r->laps, &r->bytes, &l->mem, &l->out);
+  return bench_frames(r->gateways, r->gateway_numbers, r->first.numbers, FRAME_NUMBERS * r->first.count, r->lap.numbers, FRAME_NUMBERS * r->lap.count,
+                      r->laps, r->bytes.at, r->bytes.size, l->mem.at, l->mem.size, l->out.at, l->out.size);
 }
 
 const struct frame_kind library = {"the library", sizeof(lift_table), begin, receive, run};

@@ -23,8 +23,9 @@ const CALLS: usize = 4096;
 const LAPS: u64 = 5;
 const ROOM: usize = 64;
 
-/// What the loops in Rattle take for a slice.
+/// What the loops in Rattle take for a slice: two arguments, which is how C passes this by value.
 #[repr(C)]
+#[derive(Clone, Copy)]
 struct Lent {
     at: *const u8,
     len: usize,
@@ -34,21 +35,21 @@ fn lent<T>(slice: &[T]) -> Lent {
     Lent { at: slice.as_ptr().cast(), len: slice.len() }
 }
 
-type OurReader = unsafe extern "C" fn(&Lent, &Lent, u64) -> u64;
+type OurReader = unsafe extern "C" fn(Lent, Lent, u64) -> u64;
 type Reader = fn(&[u64], &[u8], u64) -> u64;
 type Writer = fn(&[u64], &mut [u8], u64) -> u64;
 
 unsafe extern "C" {
-    fn bench_readmac(list: &Lent, bytes: &Lent, laps: u64) -> u64;
-    fn bench_readfrag(list: &Lent, bytes: &Lent, laps: u64) -> u64;
-    fn bench_readudp(list: &Lent, bytes: &Lent, laps: u64) -> u64;
-    fn bench_readext(list: &Lent, bytes: &Lent, laps: u64) -> u64;
-    fn bench_readiphc(list: &Lent, bytes: &Lent, laps: u64) -> u64;
-    fn bench_writemac(list: &Lent, out: &Lent, laps: u64) -> u64;
-    fn bench_writefrag(list: &Lent, out: &Lent, laps: u64) -> u64;
-    fn bench_writeudp(list: &Lent, out: &Lent, laps: u64) -> u64;
-    fn bench_writeext(list: &Lent, out: &Lent, laps: u64) -> u64;
-    fn bench_writeiphc(list: &Lent, out: &Lent, laps: u64) -> u64;
+    fn bench_readmac(list: Lent, bytes: Lent, laps: u64) -> u64;
+    fn bench_readfrag(list: Lent, bytes: Lent, laps: u64) -> u64;
+    fn bench_readudp(list: Lent, bytes: Lent, laps: u64) -> u64;
+    fn bench_readext(list: Lent, bytes: Lent, laps: u64) -> u64;
+    fn bench_readiphc(list: Lent, bytes: Lent, laps: u64) -> u64;
+    fn bench_writemac(list: Lent, out: Lent, laps: u64) -> u64;
+    fn bench_writefrag(list: Lent, out: Lent, laps: u64) -> u64;
+    fn bench_writeudp(list: Lent, out: Lent, laps: u64) -> u64;
+    fn bench_writeext(list: Lent, out: Lent, laps: u64) -> u64;
+    fn bench_writeiphc(list: Lent, out: Lent, laps: u64) -> u64;
 }
 
 // ---- Answers as numbers, all of them together in one
@@ -411,18 +412,18 @@ fn row(name: &str, turns: usize, mut ours: impl FnMut() -> u64, mut theirs: impl
 fn read_row(name: &str, turns: usize, kind: &str, good: bool, ours: OurReader, theirs: Reader) -> io::Result<()> {
     let (list, bytes) = reads(kind, theirs, good)?;
     let (l, b) = (lent(&list), lent(&bytes));
-    row(name, turns, || unsafe { ours(&l, &b, black_box(LAPS)) }, || theirs(&list, &bytes, black_box(LAPS)))
+    row(name, turns, || unsafe { ours(l, b, black_box(LAPS)) }, || theirs(&list, &bytes, black_box(LAPS)))
 }
 
 fn write_row(name: &str, turns: usize, kind: &str, command: &str, ours: OurReader, theirs: Writer) -> io::Result<()> {
     let list = writes(kind, command)?;
     let (mut out, mut other) = (vec![0xa5; ROOM * CALLS], vec![0xa5; ROOM * CALLS]);
     let (l, o) = (lent(&list), Lent { at: out.as_mut_ptr(), len: out.len() });
-    let sums = (unsafe { ours(&l, &o, 1) }, theirs(&list, &mut other, 1));
+    let sums = (unsafe { ours(l, o, 1) }, theirs(&list, &mut other, 1));
     if sums.0 != sums.1 || out != other {
         return Err(io::Error::other(format!("native: {name}: ours and the Rust write other bytes")));
     }
-    row(name, turns, || unsafe { ours(&l, &o, black_box(LAPS)) }, || theirs(&list, &mut other, black_box(LAPS)))
+    row(name, turns, || unsafe { ours(l, o, black_box(LAPS)) }, || theirs(&list, &mut other, black_box(LAPS)))
 }
 
 pub fn run(turns: &str) -> io::Result<()> {
