@@ -100,8 +100,7 @@ fn standard(rt: &HostRuntime) -> Ends {
 }
 
 // Writes bytes to standard error, as far as it takes them.
-pub fn say(errors: Stderr, what: &[u8]) {
-    let mut errors = errors;
+pub fn say(mut errors: Stderr, what: &[u8]) {
     let _ = errors.write_all(what);
 }
 
