@@ -197,8 +197,8 @@ fn named(rt: &HostRuntime, path: &mut [u8]) -> Option<ReadEnd> {
     }
 }
 
-// What to read: standard input, or the file that the one argument names; none where there is none, and that has been
-// said.
+// What to read: standard input, or the file that the one argument names; `None` where there is nothing, and that has
+// been said.
 fn source(rt: &HostRuntime) -> Option<ReadEnd> {
     let words = ends::arg_count(rt);
     if words < 2 {
