@@ -1,14 +1,14 @@
 -- What is read of a datagram gives its bytes back: its headers are those that the compressed ones stand for.
-use Prim.Native.Nat.{ℕ, zero, suc, ◌+◌, ◌-◌, ◌*◌, ◌/◌, ◌%◌, ◌^◌, ◌≤◌, ◌<◌}
+use Prim.Native.Nat.{ℕ, ◌+◌, ◌-◌, ◌*◌, ◌/◌, ◌%◌, ◌^◌, ◌≤◌, ◌<◌}
 use native.Mathlib.Omega.{arith}
-use mathlib.Core.List.{List, [], ◌∷◌, ◌++◌, append-nil}
+use mathlib.Core.List.{List, [], ◌++◌, append-nil}
 use mathlib.Core.Bool.{Bool, true, false, ◌&&◌}
 use mathlib.Core.Path.{◌≡◌, refl, sym, ap, ◌∙◌}
 use lib.Dec.{eqb, leb}
 use lib.ListN.{length, get_or, take, drop}
 use lib.Seq.{drop-cons, drop-drop, take-add}
 use borrow.Author.Tests.{lt-ltb, eqb-true, leb-true}
-use Rattle.octets.specs.Read.{Read, Reader, got, choose, give, byte, be16, be32, be64, ◌>>=◌}
+use Rattle.octets.specs.Read.{Reader, got, choose, give, byte, be16, be32, be64, ◌>>=◌}
 use Rattle.octets.specs.Write.{byte_bytes, be16_bytes, be32_bytes, be64_bytes}
 use Rattle.octets.proofs.Steps.{and-true}
 use Rattle.expand.specs.Full as Full

@@ -1,5 +1,5 @@
 -- A cutting worked out: 257 bytes, short addresses, a compressed header of 11 bytes for 48, frames of at most 127: they have 120 and 127.
-use mathlib.Core.List.{List, [], ◌∷◌}
+use mathlib.Core.List.{[], ◌∷◌}
 use mathlib.Core.Path.{◌≡◌, refl}
 use Rattle.cutting.specs.Pieces.{piece_from, later_pieces, whole_length, first_part, later_room, pieces}
 use Rattle.cutting.specs.declared.piece.Piece.TheVariants.{Whole, First, Later}

@@ -22,10 +22,10 @@ use Rattle.ieee802154.specs.declared.addr.AddressField.{AddressField}
 use Rattle.ieee802154.specs.Mac as Mac
 use Rattle.ieee802154.specs.declared.header.Repr as MacHeader
 use Rattle.ieee802154.proofs.WriteSteps as MacSteps
-use Rattle.sixlowpan.specs.NhcUdp.{udp_length, udp_nhc_bytes, udp_form, port_width, ports_width, checksum_width, elided_bit}
+use Rattle.sixlowpan.specs.NhcUdp.{udp_length, udp_nhc_bytes, udp_form, elided_bit}
 use Rattle.sixlowpan.specs.declared.nhc.UdpNhcRepr.{UdpNhcRepr}
 use Rattle.sixlowpan.specs.declared.protocol.NextHeader.{NextHeader}
-use Rattle.sixlowpan.specs.declared.protocol.NextHeader.TheVariants.{Compressed, Uncompressed}
+use Rattle.sixlowpan.specs.declared.protocol.NextHeader.TheVariants.{Uncompressed}
 use Rattle.sixlowpan.proofs.NhcPuts.{length-udp}
 use Rattle.iphc.specs.Emit as Iphc
 use Rattle.iphc.specs.declared.label.LabelField.{LabelField}

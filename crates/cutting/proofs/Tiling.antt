@@ -1,5 +1,5 @@
 -- Laws of the definition: the parts tile the datagram, and every frame is within the limit.
-use Prim.Native.Nat.{ℕ, zero, suc, ◌+◌, ◌-◌, ◌*◌, ◌/◌, ◌%◌, ◌≤◌, ◌<◌}
+use Prim.Native.Nat.{ℕ, zero, suc, ◌+◌, ◌-◌, ◌%◌, ◌≤◌, ◌<◌}
 use native.Mathlib.Nat.{lt_of_not-le}
 use native.Mathlib.Decide.{dec_le}
 use native.Mathlib.Omega.{arith}
@@ -7,7 +7,6 @@ use mathlib.Core.List.{List, [], ◌∷◌, ◌++◌, map, append-nil}
 use mathlib.Core.Logic.{◌⊎◌, inl, inr}
 use mathlib.Core.Bool.{Bool, true, false}
 use mathlib.Core.Path.{◌≡◌, refl, sym, ap, ◌∙◌}
-use lib.Dec.{leb}
 use lib.ListN.{length, take, drop, length-drop, length-take, take-append-drop}
 use lib.Seq.{take_all, drop-drop}
 use borrow.Author.Tests.{le-leb, lt-leb}
@@ -16,12 +15,11 @@ use Rattle.ieee802154.proofs.WriteSteps as MacSteps
 use Rattle.cutting.specs.Fields.{is_udp}
 use Rattle.cutting.specs.Head.{mac_of, mac_length, head_length, covers}
 use Rattle.cutting.specs.Pieces.{units, piece_from, later_pieces, whole_length, first_part, later_room, pieces}
-use Rattle.cutting.specs.Cut.{plan_of, middle, part_of, frame_of}
+use Rattle.cutting.specs.Cut.{plan_of, part_of, frame_of}
 use Rattle.cutting.specs.declared.link.Link.{Link}
-use Rattle.cutting.specs.declared.piece.Plan.{Plan}
 use Rattle.cutting.specs.declared.piece.Piece.{Piece}
 use Rattle.cutting.specs.declared.piece.Piece.TheVariants.{Whole, First, Later}
-use Rattle.cutting.proofs.HeadLaws.{head-most, covers-within}
+use Rattle.cutting.proofs.HeadLaws.{head-most}
 use Rattle.cutting.proofs.WriteLaws.{Ready, middle-is, frame-length}
 
 -- it holds of every element

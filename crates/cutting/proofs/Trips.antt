@@ -2,19 +2,19 @@
 use Prim.Native.Nat.{ℕ, ◌+◌, ◌-◌, ◌*◌, ◌/◌, ◌%◌, ◌^◌, ◌≤◌, ◌<◌}
 use native.Mathlib.Nat.{add-zero}
 use native.Mathlib.Omega.{arith}
-use mathlib.Core.List.{List, [], ◌∷◌, ◌++◌, append_assoc, append-nil}
+use mathlib.Core.List.{List, ◌++◌, append_assoc}
 use mathlib.Core.Bool.{Bool, true, false, ◌&&◌}
 use mathlib.Core.Path.{◌≡◌, refl, sym, ap, ◌∙◌}
-use lib.Dec.{eqb, ltb, leb}
+use lib.Dec.{eqb}
 use lib.ListN.{length, take, drop, length-append, length-drop, length-take, take-append-drop}
 use lib.Seq.{drop-append-add, drop-append_seam, take-add}
-use borrow.Author.Tests.{le-leb, le-ltb, eq-eqb, ne_eqb}
-use Rattle.octets.specs.Read.{Answer, is, refused, Placed, Read, got, and_then, choose, byte}
+use borrow.Author.Tests.{le-leb, eq-eqb, ne_eqb}
+use Rattle.octets.specs.Read.{is, got, choose, byte}
 use Rattle.octets.specs.Ipv6.{is_unspecified, is_multicast, is_link_local}
 use Rattle.octets.specs.Write.{byte_bytes, be16_bytes}
 use Rattle.octets.specs.declared.field.WordField.{WordField}
 use Rattle.octets.specs.declared.ipv6.Ipv6Addr.{Ipv6Addr}
-use Rattle.octets.proofs.RoundTrip.{Reads, reads_byte}
+use Rattle.octets.proofs.RoundTrip.{reads_byte}
 use Rattle.ieee802154.specs.Address.{is_present}
 use Rattle.ieee802154.specs.Control.{supported, has_addressing, carried, carried01}
 use Rattle.ieee802154.specs.Mac as Mac
@@ -28,7 +28,7 @@ use Rattle.ieee802154.proofs.WriteSteps as MacSteps
 use Rattle.sixlowpan.specs.Dispatch.{dispatch_of, dispatch}
 use Rattle.sixlowpan.specs.Frag as Frag
 use Rattle.sixlowpan.specs.Nhc.{nhc_of, nhc}
-use Rattle.sixlowpan.specs.NhcUdp.{form_of, both_port4, port8, ports_bytes, checksum_bytes, udp_form, udp_first, udp_length, udp_nhc_bytes, udp}
+use Rattle.sixlowpan.specs.NhcUdp.{form_of, both_port4, port8, ports_bytes, checksum_bytes, udp_form, udp_first, udp_length, udp_nhc_bytes}
 use Rattle.sixlowpan.specs.declared.dispatch.SixlowpanPacket.{SixlowpanPacket}
 use Rattle.sixlowpan.specs.declared.dispatch.SixlowpanPacket.TheVariants.{FragmentHeader, IphcHeader}
 use Rattle.sixlowpan.specs.declared.frag.Repr.{Repr}
@@ -55,7 +55,7 @@ use Rattle.expand.specs.Plain as Plain
 use Rattle.expand.specs.Plain.{UdpField, Headers, transport, by_next, behind, headers, plain, bytes_of, sized}
 use Rattle.expand.specs.Full as Full
 use Rattle.expand.specs.Sum.{no_sum, carried_at, was_elided, summed_by}
-use Rattle.expand.specs.Expand.{Expansion, finished, expansion}
+use Rattle.expand.specs.Expand.{finished, expansion}
 use Rattle.expand.specs.Chain.{total_of}
 use Rattle.expand.specs.declared.checksum.UdpSum.{UdpSum}
 use Rattle.expand.proofs.Plain.{expansion-plain}
@@ -66,7 +66,7 @@ use Rattle.cutting.specs.Cut.{has_both, middle, part_of, frame_of}
 use Rattle.cutting.specs.declared.link.Link.{Link}
 use Rattle.cutting.specs.declared.piece.Piece.{Piece}
 use Rattle.cutting.specs.declared.piece.Piece.TheVariants.{Whole, First, Later}
-use Rattle.cutting.proofs.HeadLaws.{length-head, length-udp-part, covers-within}
+use Rattle.cutting.proofs.HeadLaws.{length-head, covers-within}
 use Rattle.cutting.proofs.Backs.{Ours, udp_field, headers-full}
 
 -- ---- the MAC header

@@ -1,8 +1,8 @@
 -- A frame that is written, from what calls gave.
-use Prim.Native.Nat.{ℕ, zero, suc, ◌+◌, ◌-◌, ◌/◌, ◌%◌, ◌≤◌, ◌<◌, min}
+use Prim.Native.Nat.{ℕ, zero, suc, ◌+◌, ◌/◌, ◌%◌, ◌≤◌, ◌<◌, min}
 use native.Mathlib.Omega.{arith}
 use mathlib.Core.List.{List, [], ◌∷◌, ◌++◌, map}
-use mathlib.Core.Bool.{Bool, true, false, ◌&&◌}
+use mathlib.Core.Bool.{Bool, true, false}
 use mathlib.Core.Path.{◌≡◌, refl, sym, ap, ◌∙◌}
 use lib.Dec.{leb}
 use lib.ListN.{length, take, drop, length-append, length-take, length-drop, take-append-drop}
@@ -21,7 +21,7 @@ use Rattle.sixlowpan.specs.Frag as Frag
 use Rattle.sixlowpan.specs.declared.frag.Repr.{Repr}
 use Rattle.sixlowpan.specs.declared.frag.Repr.TheVariants.{FirstFragment, Fragment}
 use Rattle.sixlowpan.proofs.FragPuts as FragPuts
-use Rattle.cutting.specs.Fields.{is_udp, is_ours}
+use Rattle.cutting.specs.Fields.{is_ours}
 use Rattle.cutting.specs.Head.{mac_of, mac_length, mac_bytes, head_length, head_bytes, head_of, covers}
 use Rattle.cutting.specs.Pieces.{of_piece, pieces, nth, Sane}
 use Rattle.cutting.specs.Cut.{plan_of, middle, middle_length, part_of, part_at, frame_of, in_range, has_both, cut, cut_frame, cut_count, answered, written}

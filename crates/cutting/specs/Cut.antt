@@ -1,5 +1,5 @@
 -- Cutting what we send: every frame of a datagram, in order, and the refusals.
-use Rattle.std.specs.Prelude.{ℕ, ◌+◌, ◌/◌, ◌%◌, List, [], ◌++◌, map, Bool, ◌&&◌, leb, length, take, drop}
+use Rattle.std.specs.Prelude.{ℕ, ◌+◌, ◌/◌, ◌%◌, List, ◌++◌, map, Bool, ◌&&◌, leb, length, take, drop}
 use Rattle.octets.specs.Read.{Answer, is, refused, and_then, choose}
 use Rattle.octets.specs.Refusal.{number_of}
 use Rattle.octets.specs.Write.{wrote, over}

@@ -1,6 +1,6 @@
 -- What is read of a datagram that is sent: IPv6 (RFC 8200, 3) and UDP (RFC 768).
 use Rattle.std.specs.Prelude.{ℕ, ◌+◌, ◌*◌, ◌^◌, List, Bool, ◌&&◌, eqb, leb, length}
-use Rattle.octets.specs.Read.{Answer, is, refused, Placed, Read, byte, be16, be32}
+use Rattle.octets.specs.Read.{is, refused, Read, byte, be16, be32}
 
 -- what is read, or 0 past the end
 abbrev pub or_zero : Read ℕ → ℕ

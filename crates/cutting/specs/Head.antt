@@ -1,5 +1,5 @@
 -- The headers of a frame that is sent: the MAC header, and the compressed headers with how many bytes of the datagram they stand for.
-use Rattle.std.specs.Prelude.{ℕ, ◌+◌, List, [], ◌++◌, Bool, true, false}
+use Rattle.std.specs.Prelude.{ℕ, ◌+◌, List, [], ◌++◌, true, false}
 use Rattle.octets.specs.Read.{choose, byte, be16, be64}
 use Rattle.octets.specs.Ipv6.{ip}
 use Rattle.octets.specs.declared.field.ByteField.{ByteField}

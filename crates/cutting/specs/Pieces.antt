@@ -1,6 +1,6 @@
 -- How a datagram is cut (RFC 4944, 5.3): by numbers alone. Every part but the last is a multiple of 8 octets long, as long as the limit allows;
 -- the last may fill the room.
-use Rattle.std.specs.Prelude.{ℕ, zero, suc, ◌+◌, ◌-◌, ◌*◌, ◌/◌, ◌≤◌, ◌<◌, List, [], ◌∷◌, leb}
+use Rattle.std.specs.Prelude.{ℕ, zero, suc, ◌+◌, ◌-◌, ◌*◌, ◌/◌, ◌≤◌, List, [], ◌∷◌, leb}
 use Rattle.octets.specs.Read.{Answer, is, refused, choose}
 use Rattle.octets.specs.Refusal.{number_of}
 use Rattle.cutting.specs.declared.piece.Plan.{Plan}

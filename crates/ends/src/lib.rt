@@ -4,60 +4,198 @@
 //   new file beside the second, named as that with `.part` behind it. Anything else is answered by a usage line.
 // - `close` ends it. A file that is whole takes the second name; one that is not is removed, so that no half file is
 //   left.
+//
+// A path of std is text in UTF-8, so that a name of other bytes is answered as one that the system has no character
+// for.
 #![tactic(auto)]
-ghost use Rattle.std.specs.Prelude.{◌≡◌, length};
-ghost use Rattle.libc.specs.Io.{Status};
 
+ghost use Rattle.std.specs.Prelude.{◌≡◌, length};
+ghost use Rattle.ends.specs.Closing.{Status};
+
+use std::env::{Env, FillError};
+use std::fs::{File, OpenOptions};
+use std::io::{Cursor, Read, Stderr, Stdin, Stdout, Write};
+use std::{fs, io};
 use text::field::upto;
 use text::print;
 
-// The two descriptors; how long the names are, 0 where there are none; and whether all is open.
+// Linux's numbers of three errors: an argument that is not there, one that is too long, and a name that is no text.
+const EINVAL: i32 = 22;
+
+const ENAMETOOLONG: i32 = 36;
+
+const EILSEQ: i32 = 84;
+
+// What is read.
+#[derive(Drop)]
+pub enum ReadEnd {
+    Standard(Stdin),
+    Named(File),
+}
+
+impl Read for ReadEnd {
+    fn read(&mut self, buf: &mut [u8]) -> io::Result<usize> {
+        match self {
+            ReadEnd::Standard(stdin) => stdin.read(buf),
+            ReadEnd::Named(file) => file.read(buf),
+        }
+    }
+}
+
+// What is written.
+#[derive(Drop)]
+pub enum WriteEnd {
+    Standard(Stdout),
+    Named(File),
+}
+
+impl Write for WriteEnd {
+    fn write(&mut self, buf: &[u8]) -> io::Result<usize> {
+        match self {
+            WriteEnd::Standard(stdout) => stdout.write(buf),
+            WriteEnd::Named(file) => file.write(buf),
+        }
+    }
+
+    fn flush(&mut self) -> io::Result<()> {
+        match self {
+            WriteEnd::Standard(stdout) => stdout.flush(),
+            WriteEnd::Named(file) => file.flush(),
+        }
+    }
+}
+
+// The two ends, and where errors are said; how long the names are, 0 where there are none; and whether all is open.
 #[derive(Drop)]
 pub struct Ends {
-    pub input: i32,
-    pub output: i32,
+    pub input: ReadEnd,
+    pub output: WriteEnd,
+    pub errors: Stderr,
     pub part: usize,
     pub name: usize,
     pub ready: bool,
 }
 
-fn unready() -> Ends {
+// Nothing is to be read or written, and why was said.
+fn unready(rt: &HostRuntime) -> Ends {
     Ends {
-        input: -1,
-        output: -1,
+        input: ReadEnd::Standard(rt.stdin()),
+        output: WriteEnd::Standard(rt.stdout()),
+        errors: rt.stderr(),
         part: 0,
         name: 0,
         ready: false,
     }
 }
 
-fn standard() -> Ends {
+fn standard(rt: &HostRuntime) -> Ends {
     Ends {
-        input: 0,
-        output: 1,
+        input: ReadEnd::Standard(rt.stdin()),
+        output: WriteEnd::Standard(rt.stdout()),
+        errors: rt.stderr(),
         part: 0,
         name: 0,
         ready: true,
     }
 }
 
+// Writes bytes to standard error, as far as it takes them.
+pub fn say(mut errors: Stderr, what: &[u8]) {
+    let _ = errors.write_all(what);
+}
+
+// The system's text of an error, without its number.
+fn without_number(text: &str) -> &str {
+    match text.split_once(" (os error ") {
+        Some((before, _)) => before,
+        None => text,
+    }
+}
+
+// Writes a line to standard error: what failed, as the caller names it, a colon and the error's text.
+pub fn fail(errors: Stderr, what: &[u8], error: &io::Error) {
+    let mut room = Cursor::new([0u8; 512]);
+    let _ = write!(room, "{error}");
+    let n = room.position() as usize;
+    let bytes = room.into_inner();
+    say(errors, what);
+    say(errors, b": ");
+    if let Ok(text) = str::from_utf8(upto(&bytes, n)) {
+        say(errors, without_number(text).as_bytes());
+    }
+    say(errors, b"\n");
+}
+
+// Why an argument cannot be had.
+fn missing(error: FillError) -> io::Error {
+    match error {
+        FillError::NotPresent => io::Error::from_raw_os_error(EINVAL),
+        FillError::TooLong => io::Error::from_raw_os_error(ENAMETOOLONG),
+    }
+}
+
+// A name as text.
+fn text_of(name: &[u8]) -> io::Result<&str> {
+    match str::from_utf8(name) {
+        Ok(text) => Ok(text),
+        Err(_) => Err(io::Error::from_raw_os_error(EILSEQ)),
+    }
+}
+
+// How many arguments the program was started with, its own name among them; 4 where there are more.
+pub fn arg_count(rt: &HostRuntime) -> usize {
+    let mut room = [0u8; 1];
+    for n in 0..4usize {
+        if let Err(FillError::NotPresent) = rt.arg(n, &mut room) {
+            return n;
+        }
+    }
+    4
+}
+
+// Opens a file to read.
+pub fn open_read(rt: &HostRuntime, name: &[u8]) -> io::Result<File> {
+    File::open(rt, text_of(name)?)
+}
+
+// Makes a file to write, where there is none of that name.
+fn create(rt: &HostRuntime, name: &[u8]) -> io::Result<File> {
+    let text = text_of(name)?;
+    OpenOptions::new()
+        .write(true)
+        .create_new(true)
+        .open(rt, text)
+}
+
+fn rename(rt: &HostRuntime, from: &[u8], to: &[u8]) -> io::Result<()> {
+    fs::rename(rt, text_of(from)?, text_of(to)?)
+}
+
+fn unlink(rt: &HostRuntime, name: &[u8]) -> io::Result<()> {
+    fs::remove_file(rt, text_of(name)?)
+}
+
 // Opens the file to read, and makes the one to write: `part` is its name, and `name` is how many bytes of it the second
 // argument has.
-fn open_both(from: &[u8], part: &[u8], name: usize) -> Ends {
-    let input = os::open_read(from);
-    if input < 0 {
-        os::fail(from);
-        return unready();
-    }
-    let output = os::create(part);
-    if output < 0 {
-        os::fail(part);
-        libc::close(input);
-        return unready();
-    }
+fn open_both(rt: &HostRuntime, from: &[u8], part: &[u8], name: usize) -> Ends {
+    let input = match open_read(rt, from) {
+        Ok(file) => file,
+        Err(e) => {
+            fail(rt.stderr(), from, &e);
+            return unready(rt);
+        }
+    };
+    let output = match create(rt, part) {
+        Ok(file) => file,
+        Err(e) => {
+            fail(rt.stderr(), part, &e);
+            return unready(rt);
+        }
+    };
     Ends {
-        input,
-        output,
+        input: ReadEnd::Named(input),
+        output: WriteEnd::Named(output),
+        errors: rt.stderr(),
         part: part.len(),
         name,
         ready: true,
@@ -65,60 +203,73 @@ fn open_both(from: &[u8], part: &[u8], name: usize) -> Ends {
 }
 
 // The second argument and `.part` behind it.
-fn open_named(from: &[u8], part: &mut [u8]) -> Ends {
-    let name = os::arg(2, part);
-    if os::errno() != 0 {
-        os::fail(b"the second argument");
-        return unready();
-    }
+fn open_named(rt: &HostRuntime, from: &[u8], part: &mut [u8]) -> Ends {
+    let name = match rt.arg(2, part) {
+        Ok(n) => n,
+        Err(e) => {
+            fail(rt.stderr(), b"the second argument", &missing(e));
+            return unready(rt);
+        }
+    };
     let all = print::text(part, name, b".part");
     if all == name {
-        io::write_all(2, b"the second argument is too long\n");
-        return unready();
+        say(rt.stderr(), b"the second argument is too long\n");
+        return unready(rt);
     }
-    open_both(from, upto(part, all), name)
+    open_both(rt, from, upto(part, all), name)
 }
 
 // Opens what the arguments name. The name of the file to write goes to `part`.
-pub fn open(usage: &[u8], part: &mut [u8]) -> Ends
+pub fn open(rt: &HostRuntime, usage: &[u8], part: &mut [u8]) -> Ends
     ensures { length part.new ≡ length part.old }
 {
-    let n = os::arg_count();
+    let n = arg_count(rt);
     if n == 1 {
-        return standard();
+        return standard(rt);
     }
     if n != 3 {
-        io::write_all(2, usage);
-        return unready();
+        say(rt.stderr(), usage);
+        return unready(rt);
     }
-    let mut from = io::buffer();
-    let m = os::arg(1, &mut from);
-    if os::errno() != 0 {
-        os::fail(b"the first argument");
-        return unready();
+    let mut from = [0u8; 4096];
+    let m = match rt.arg(1, &mut from) {
+        Ok(m) => m,
+        Err(e) => {
+            fail(rt.stderr(), b"the first argument", &missing(e));
+            return unready(rt);
+        }
+    };
+    open_named(rt, upto(&from, m), part)
+}
+
+// Closes the end that was written, once the system has put away all of it: what it says only then, as that no room is
+// left, a close in std would not tell.
+fn shut(output: WriteEnd) -> io::Result<()> {
+    match output {
+        WriteEnd::Standard(_) => Ok(()),
+        WriteEnd::Named(file) => file.sync_all(),
     }
-    open_named(upto(&from, m), part)
 }
 
 // Ends it, with all moved or not: 0, or -1 where no file was left under the second name.
-pub fn close(e: Ends, whole: bool, part: &[u8]) -> i32
+pub fn close(rt: &HostRuntime, e: Ends, whole: bool, part: &[u8]) -> i32
     ensures { Status result }
 {
-    if e.part == 0 {
+    let all = e.part;
+    let name = e.name;
+    if all == 0 {
         return 0;
     }
-    libc::close(e.input);
-    let closed = libc::close(e.output);
-    if closed != 0 {
-        os::fail(b"close");
+    let closed = shut(e.output);
+    if let Err(error) = closed {
+        fail(rt.stderr(), b"close", &error);
     }
-    if whole && closed == 0 {
-        let moved = os::rename(upto(part, e.part), upto(part, e.name));
-        if moved == 0 {
-            return 0;
+    if whole && closed.is_ok() {
+        match rename(rt, upto(part, all), upto(part, name)) {
+            Ok(()) => return 0,
+            Err(error) => fail(rt.stderr(), upto(part, name), &error),
         }
-        os::fail(upto(part, e.name));
     }
-    os::unlink(upto(part, e.part));
+    let _ = unlink(rt, upto(part, all));
     -1
 }

@@ -7,7 +7,7 @@ use mathlib.Core.Path.{◌≡◌, refl, sym, ap, subst, ◌∙◌}
 use lib.ListN.{length, get_or, take, drop, length-take, length-drop}
 use lib.Dec.{eqb, ltb}
 use borrow.Author.Tests.{eq-eqb, ne_eqb, eqb-true, eqb-false}
-use Rattle.octets.specs.Read.{Answer, is, refused, Reader, got, and_then, choose, branch, give, refuse, byte, be16, skip, ◌>>=◌}
+use Rattle.octets.specs.Read.{Answer, is, refused, Reader, got, and_then, choose, branch, give, refuse, byte, be16, skip}
 use Rattle.octets.specs.declared.ipv6.Ipv6Addr.{Ipv6Addr}
 use Rattle.octets.proofs.Spans.{Starts, not-refused, starts-then, starts-byte, starts-be16, spans-byte, spans-skip}
 use Rattle.ieee802154.specs.Address.{flip57}

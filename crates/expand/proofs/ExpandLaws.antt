@@ -5,9 +5,7 @@ use mathlib.Core.List.{List, ◌++◌}
 use mathlib.Core.Path.{◌≡◌, refl, ap, ◌∙◌}
 use lib.ListN.{length, take, drop, length-drop}
 use lib.Seq.{take_all}
-use lib.Dec.{leb}
 use borrow.Author.Tests.{le-leb}
-use Rattle.octets.specs.Read.{is}
 use Rattle.octets.specs.Write.{put, over}
 use Rattle.octets.specs.declared.field.WordField.{WordField}
 use Rattle.expand.specs.Sum.{summed_in}

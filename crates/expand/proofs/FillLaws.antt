@@ -7,7 +7,7 @@ use mathlib.Core.Bool.{Bool, true, false}
 use mathlib.Core.Path.{◌≡◌, refl, sym, ap, subst, ◌∙◌}
 use lib.ListN.{length, take, drop, replicate, length-append}
 use lib.Seq.{take-append_seam}
-use lib.Dec.{ltb, leb}
+use lib.Dec.{leb}
 use borrow.Author.Tests.{lt-ltb, le-ltb, leb-true, le-leb, lt-leb}
 use Rattle.octets.specs.Read.{Answer, is, refused, Read, and_then, choose}
 use Rattle.octets.specs.Refusal.{number_of}

@@ -7,7 +7,7 @@ use mathlib.Core.Bool.{Bool, true, false, ◌&&◌}
 use mathlib.Core.Path.{◌≡◌, refl, sym, ap, ◌∙◌}
 use lib.ListN.{length, get_or, take, drop, drop_of_length-le, length-append, length-take, length-drop, take-append-drop}
 use lib.Seq.{drop-cons, get_or-drop, drop-drop, take-add, take_all, take_at, drop_at}
-use lib.Dec.{ltb, leb, eqb}
+use lib.Dec.{ltb, leb}
 use borrow.Author.Tests.{ltb-true, ltb-false, leb-true, le-leb, lt-leb, eq-eqb, ne_eqb}
 use Rattle.octets.specs.Read.{choose}
 use Rattle.octets.specs.Write.{put, be16_bytes, be32_bytes}

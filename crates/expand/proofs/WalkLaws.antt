@@ -38,7 +38,6 @@ use Rattle.expand.specs.declared.chain.Step.{Step}
 use Rattle.expand.specs.declared.chain.Way.{Way}
 use Rattle.expand.specs.declared.chain.Last.{Last}
 use Rattle.expand.specs.declared.chain.Reached.{Reached}
-use Rattle.expand.specs.declared.chain.Laid.{Laid}
 use Rattle.expand.specs.declared.chain.Walked.{Walked}
 use Rattle.expand.specs.declared.chain.TotalAnswer.{TotalAnswer}
 use Rattle.expand.proofs.Inverting.{invert, value-is}

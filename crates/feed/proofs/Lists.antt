@@ -1,7 +1,7 @@
 -- Lists: zeros behind bytes, and pieces of 512.
 use Prim.Native.Nat.{ℕ, zero, suc, ◌+◌, ◌-◌, ◌≤◌, min}
 use native.Mathlib.Omega.{arith, min_cases}
-use mathlib.Core.List.{List, [], ◌++◌, map, append_assoc, append-nil}
+use mathlib.Core.List.{List, ◌++◌, map, append_assoc, append-nil}
 use mathlib.Core.Path.{◌≡◌, sym, ap, ap₂, ◌∙◌}
 use lib.ListN.{length, take, drop, replicate, length-append, length-take, length-drop, length-map, drop_of_length-le}
 use lib.Seq.{take_all, take_at, take-length, take-append_seam, length-take-le}

@@ -5,10 +5,13 @@
 // and the blocks are written. Until the input has ended a block is made only of 429 bytes or more, which hold three
 // frames.
 #![tactic(auto)]
+
+use ends::Ends;
 use octets::cursor::{Cursor, Skipped};
 use octets::write::Written;
 use pcap::coming::{FromPcap, one_block};
 use pcap::read::head;
+use std::io::{Read, Stderr, Write};
 use text::field::upto;
 use text::{line, print};
 
@@ -64,25 +67,34 @@ fn rested(due: FromPcap, at: usize, next: usize, well: bool) -> Moved {
 }
 
 // Writes the blocks that were put.
-fn sent(fd: i32, out: &[u8], n: usize) -> bool {
-    let done = io::write_all(fd, upto(out, n));
-    if !done {
-        os::fail(b"write");
+fn sent(e: &mut Ends, out: &[u8], n: usize) -> bool {
+    match e.output.write_all(upto(out, n)) {
+        Ok(()) => true,
+        Err(error) => {
+            ends::fail(e.errors, b"write", &error);
+            false
+        }
     }
-    done
 }
 
 // The line `no R` on standard error.
-fn refuse(number: u8) {
+fn refuse(errors: Stderr, number: u8) {
     let mut line = [0u8; 64];
     let a = print::text(&mut line, 0, b"no ");
     let b = print::decimal(&mut line, a, number as u64);
     let c = print::text(&mut line, b, b"\n");
-    io::write_all(2, upto(&line, c));
+    ends::say(errors, upto(&line, c));
 }
 
 // The block of the next frames behind the blocks that were put before, for which there is room.
-fn put(due: FromPcap, input: &[u8], at: usize, out: &mut [u8], next: usize) -> Moved {
+fn put(
+    due: FromPcap,
+    input: &[u8],
+    at: usize,
+    out: &mut [u8],
+    next: usize,
+    errors: Stderr,
+) -> Moved {
     if input.len() < at {
         return rested(due, at, next, false);
     }
@@ -110,14 +122,14 @@ fn put(due: FromPcap, input: &[u8], at: usize, out: &mut [u8], next: usize) -> M
             }
         }
         Written::Refused(e) => {
-            refuse(e.number());
+            refuse(errors, e.number());
             rested(after, at, next, false)
         }
     }
 }
 
 // One block more, where the input holds its frames; the blocks before it are written where the room is full.
-fn step(m: Moved, fd: i32, input: &[u8], ended: bool, out: &mut [u8]) -> Moved {
+fn step(m: Moved, e: &mut Ends, input: &[u8], ended: bool, out: &mut [u8]) -> Moved {
     let due = m.due;
     let at = m.at;
     let next = m.next;
@@ -128,16 +140,23 @@ fn step(m: Moved, fd: i32, input: &[u8], ended: bool, out: &mut [u8]) -> Moved {
         return rested(due, at, next, true);
     }
     if next <= out.len() && BLOCK <= out.len() - next {
-        return put(due, input, at, out, next);
+        return put(due, input, at, out, next, e.errors);
     }
-    if sent(fd, out, next) {
-        return put(due, input, at, out, 0);
+    if sent(e, out, next) {
+        return put(due, input, at, out, 0, e.errors);
     }
     rested(due, at, 0, false)
 }
 
 // The frames of the input from a place on. Each step uses a byte or more, or is the last.
-fn move_all(due: FromPcap, fd: i32, input: &[u8], at: usize, ended: bool, out: &mut [u8]) -> Moved {
+fn move_all(
+    due: FromPcap,
+    e: &mut Ends,
+    input: &[u8],
+    at: usize,
+    ended: bool,
+    out: &mut [u8],
+) -> Moved {
     let mut m = Moved {
         due,
         at,
@@ -147,7 +166,7 @@ fn move_all(due: FromPcap, fd: i32, input: &[u8], at: usize, ended: bool, out: &
     };
     let mut left = input.len();
     while 0 < left {
-        m = step(m, fd, input, ended, out);
+        m = step(m, e, input, ended, out);
         if !m.more {
             return m;
         }
@@ -157,11 +176,11 @@ fn move_all(due: FromPcap, fd: i32, input: &[u8], at: usize, ended: bool, out: &
 }
 
 // Writes the blocks, and moves what is left of the input to its start. At the end of the input nothing is left.
-fn pass_on(m: Moved, fd: i32, input: &mut [u8], all: usize, ended: bool, out: &[u8]) -> Kept {
+fn pass_on(m: Moved, e: &mut Ends, input: &mut [u8], all: usize, ended: bool, out: &[u8]) -> Kept {
     let due = m.due;
     let at = m.at;
     let well = m.well;
-    if !sent(fd, out, m.next) {
+    if !sent(e, out, m.next) {
         return stopped(due);
     }
     if !well {
@@ -186,7 +205,7 @@ fn pass_on(m: Moved, fd: i32, input: &mut [u8], all: usize, ended: bool, out: &[
 // The first bytes: the file header, which is read once it is there or the input has ended.
 fn first(
     due: FromPcap,
-    fd: i32,
+    e: &mut Ends,
     input: &mut [u8],
     all: usize,
     ended: bool,
@@ -203,46 +222,47 @@ fn first(
     }
     match head(upto(input, all), Cursor::START) {
         Skipped::Past(c) => {
-            let m = move_all(due, fd, upto(input, all), c.at, ended, out);
-            pass_on(m, fd, input, all, ended, out)
+            let m = move_all(due, e, upto(input, all), c.at, ended, out);
+            pass_on(m, e, input, all, ended, out)
         }
-        Skipped::Refused(e) => {
-            refuse(e.number());
+        Skipped::Refused(refusal) => {
+            refuse(e.errors, refusal.number());
             stopped(due)
         }
     }
 }
 
 // What a read brought.
-fn took(k: Kept, fd: i32, input: &mut [u8], all: usize, ended: bool, out: &mut [u8]) -> Kept {
+fn took(k: Kept, e: &mut Ends, input: &mut [u8], all: usize, ended: bool, out: &mut [u8]) -> Kept {
     let due = k.due;
     if !k.begun {
-        return first(due, fd, input, all, ended, out);
+        return first(due, e, input, all, ended, out);
     }
-    let m = move_all(due, fd, upto(input, all), 0, ended, out);
-    pass_on(m, fd, input, all, ended, out)
+    let m = move_all(due, e, upto(input, all), 0, ended, out);
+    pass_on(m, e, input, all, ended, out)
 }
 
 // Reads once, and moves the frames that are whole.
-fn turn(k: Kept, from: i32, to: i32, input: &mut [u8], out: &mut [u8]) -> Kept {
+fn turn(k: Kept, e: &mut Ends, input: &mut [u8], out: &mut [u8]) -> Kept {
     let have = k.have;
     if input.len() <= have {
         return stopped(k.due);
     }
-    let got = libc::read(from, &mut input[have..]);
-    if got < 0 {
-        os::fail(b"read");
-        return stopped(k.due);
-    }
-    let n = io::count(got, input);
+    let n = match e.input.read(&mut input[have..]) {
+        Ok(n) => n,
+        Err(error) => {
+            ends::fail(e.errors, b"read", &error);
+            return stopped(k.due);
+        }
+    };
     if input.len() - have < n {
         return stopped(k.due);
     }
-    took(k, to, input, have + n, n == 0, out)
+    took(k, e, input, have + n, n == 0, out)
 }
 
 // Nothing says that the input ends, so the turns are counted down from a number that no run uses up.
-fn run(from: i32, to: i32, input: &mut [u8], out: &mut [u8]) -> bool {
+fn run(e: &mut Ends, input: &mut [u8], out: &mut [u8]) -> bool {
     let mut k = Kept {
         due: FromPcap { frames: 0 },
         have: 0,
@@ -252,7 +272,7 @@ fn run(from: i32, to: i32, input: &mut [u8], out: &mut [u8]) -> bool {
     };
     let mut turns = u64::MAX;
     while 0 < turns {
-        k = turn(k, from, to, input, out);
+        k = turn(k, e, input, out);
         if !k.more {
             return k.whole;
         }
@@ -261,13 +281,13 @@ fn run(from: i32, to: i32, input: &mut [u8], out: &mut [u8]) -> bool {
     false
 }
 
-fn main() {
-    let mut name = io::buffer();
-    let e = ends::open(b"usage: from_pcap [PCAP CAPTURE]\n", &mut name);
+fn main(rt: HostRuntime) {
+    let mut name = [0u8; 4096];
+    let mut e = ends::open(&rt, b"usage: from_pcap [PCAP CAPTURE]\n", &mut name);
     if e.ready {
-        let mut input = io::large_buffer();
-        let mut out = io::large_buffer();
-        let whole = run(e.input, e.output, &mut input, &mut out);
-        ends::close(e, whole, &name);
+        let mut input = [0u8; 65536];
+        let mut out = [0u8; 65536];
+        let whole = run(&mut e, &mut input, &mut out);
+        ends::close(&rt, e, whole, &name);
     }
 }

@@ -5,10 +5,23 @@
 // What the blocks say is the library's (`listen::hear_all`); here they are read, up to 128 at a time, and their lines
 // written. No line is longer than 46 bytes, so that the text has room for all lines of one read.
 #![tactic(auto)]
+
+use ends::ReadEnd;
 use listen::{Ear, Heard, hear_all, put_end};
+use std::env::Env;
+use std::io;
+use std::io::{Read, Stderr, Stdout, Write};
 use text::line;
 
 const BLOCK: usize = 512;
+
+// Where the capture is read, where the lines go, and where errors are said.
+#[derive(Drop)]
+struct Ways {
+    input: ReadEnd,
+    lines: Stdout,
+    errors: Stderr,
+}
 
 // What is kept from one read to the next: who listens, how many bytes of an unfinished block stand at the input's
 // start, and whether to go on.
@@ -28,17 +41,19 @@ fn upto(s: &[u8], n: usize) -> &[u8] {
 }
 
 // Writes text to standard output, or says why it cannot.
-fn write(text: &[u8]) -> bool {
-    let sent = io::write_all(libc::STDOUT_FILENO, text);
-    if !sent {
-        os::fail(b"heard: the lines cannot be written");
+fn write(ways: &mut Ways, text: &[u8]) -> bool {
+    match ways.lines.write_all(text) {
+        Ok(()) => true,
+        Err(error) => {
+            ends::fail(ways.errors, b"heard: the lines cannot be written", &error);
+            false
+        }
     }
-    sent
 }
 
 // Says why the capture cannot be read on. The run is over, without a last line.
-fn unread(ear: Ear) -> Kept {
-    os::fail(b"heard: the capture cannot be read");
+fn unread(ear: Ear, errors: Stderr, error: &io::Error) -> Kept {
+    ends::fail(errors, b"heard: the capture cannot be read", error);
     Kept {
         ear,
         have: 0,
@@ -47,10 +62,10 @@ fn unread(ear: Ear) -> Kept {
 }
 
 // Puts the last line and writes the text out. The run is over.
-fn finish(h: Heard, text: &mut [u8]) -> Kept {
+fn finish(h: Heard, ways: &mut Ways, text: &mut [u8]) -> Kept {
     let ear = h.ear;
     let end = put_end(text, h.next, ear.frames);
-    write(upto(text, end));
+    write(ways, upto(text, end));
     Kept {
         ear,
         have: 0,
@@ -59,25 +74,34 @@ fn finish(h: Heard, text: &mut [u8]) -> Kept {
 }
 
 // The input has ended: what is left of it is less than a block.
-fn last(ear: Ear, rest: &[u8], mem: &mut [u8], out: &mut [u8], text: &mut [u8]) -> Kept {
+fn last(
+    ear: Ear,
+    ways: &mut Ways,
+    rest: &[u8],
+    mem: &mut [u8],
+    out: &mut [u8],
+    text: &mut [u8],
+) -> Kept {
     let h = hear_all(ear, rest, mem, out, text, 0);
-    finish(h, text)
+    finish(h, ways, text)
 }
 
 // Writes out the lines of the whole blocks, and moves what is left behind them to the start.
-fn pass_on(h: Heard, input: &mut [u8], whole: usize, rest: usize, text: &mut [u8]) -> Kept {
+fn pass_on(h: Heard, ways: &mut Ways, input: &mut [u8], all: usize, text: &mut [u8]) -> Kept {
+    let rest = all % BLOCK;
+    let whole = all - rest;
     if !h.more {
-        return finish(h, text);
+        return finish(h, ways, text);
     }
     if input.len() < whole {
-        return finish(h, text);
+        return finish(h, ways, text);
     }
     if input.len() - whole < rest {
-        return finish(h, text);
+        return finish(h, ways, text);
     }
     line::shift(&mut input[0..whole + rest], whole);
     let ear = h.ear;
-    let sent = write(upto(text, h.next));
+    let sent = write(ways, upto(text, h.next));
     Kept {
         ear,
         have: rest,
@@ -88,22 +112,21 @@ fn pass_on(h: Heard, input: &mut [u8], whole: usize, rest: usize, text: &mut [u8
 // Hears the whole blocks among the first `all` bytes of the input.
 fn heard(
     ear: Ear,
-    input: &mut [u8],
+    input: &[u8],
     all: usize,
     mem: &mut [u8],
     out: &mut [u8],
     text: &mut [u8],
-) -> Kept {
+) -> Heard {
     let rest = all % BLOCK;
     let whole = all - rest;
-    let h = hear_all(ear, upto(input, whole), mem, out, text, 0);
-    pass_on(h, input, whole, rest, text)
+    hear_all(ear, upto(input, whole), mem, out, text, 0)
 }
 
 // Reads once, and hears the blocks that are whole.
 fn turn(
     k: Kept,
-    fd: i32,
+    ways: &mut Ways,
     input: &mut [u8],
     mem: &mut [u8],
     out: &mut [u8],
@@ -112,24 +135,24 @@ fn turn(
     let have = k.have;
     let ear = k.ear;
     if input.len() <= have {
-        return last(ear, input, mem, out, text);
+        return last(ear, ways, input, mem, out, text);
     }
-    let got = libc::read(fd, &mut input[have..]);
-    if got < 0 {
-        return unread(ear);
+    let n = match ways.input.read(&mut input[have..]) {
+        Ok(n) => n,
+        Err(error) => return unread(ear, ways.errors, &error),
+    };
+    if n == 0 {
+        return last(ear, ways, upto(input, have), mem, out, text);
     }
-    if got == 0 {
-        return last(ear, upto(input, have), mem, out, text);
-    }
-    let n = io::count(got, input);
     if input.len() - have < n {
-        return last(ear, input, mem, out, text);
+        return last(ear, ways, input, mem, out, text);
     }
-    heard(ear, input, have + n, mem, out, text)
+    let h = heard(ear, input, have + n, mem, out, text);
+    pass_on(h, ways, input, have + n, text)
 }
 
 // Nothing says that the input ends, so the turns are counted down from a number that no run uses up.
-fn run(fd: i32, input: &mut [u8], mem: &mut [u8], out: &mut [u8], text: &mut [u8]) {
+fn run(ways: &mut Ways, input: &mut [u8], mem: &mut [u8], out: &mut [u8], text: &mut [u8]) {
     let ear = Ear::new();
     let mut k = Kept {
         ear,
@@ -138,7 +161,7 @@ fn run(fd: i32, input: &mut [u8], mem: &mut [u8], out: &mut [u8], text: &mut [u8
     };
     let mut turns = u64::MAX;
     while 0 < turns {
-        k = turn(k, fd, input, mem, out, text);
+        k = turn(k, ways, input, mem, out, text);
         if !k.more {
             return;
         }
@@ -147,53 +170,59 @@ fn run(fd: i32, input: &mut [u8], mem: &mut [u8], out: &mut [u8], text: &mut [u8
 }
 
 // Says what is wanted. There is nothing to read.
-fn usage() -> i32 {
-    io::write_all(libc::STDERR_FILENO, b"usage: heard [CAPTURE]\n");
-    -1
+fn usage(rt: &HostRuntime) -> Option<ReadEnd> {
+    ends::say(rt.stderr(), b"usage: heard [CAPTURE]\n");
+    None
 }
 
 // Opens the file that the first argument names, or says why it cannot. `path` is room for the name.
-fn named(path: &mut [u8]) -> i32 {
-    let n = os::arg(1, path);
-    if os::errno() != 0 {
-        return usage();
-    }
+fn named(rt: &HostRuntime, path: &mut [u8]) -> Option<ReadEnd> {
+    let n = match rt.arg(1, path) {
+        Ok(n) => n,
+        Err(_) => return usage(rt),
+    };
     let name = upto(path, n);
     if name.len() == 0 {
-        return usage();
+        return usage(rt);
     }
     if name[0] == b'-' {
-        return usage();
+        return usage(rt);
     }
-    let fd = os::open_read(name);
-    if fd < 0 {
-        os::fail(name);
+    match ends::open_read(rt, name) {
+        Ok(file) => Some(ReadEnd::Named(file)),
+        Err(error) => {
+            ends::fail(rt.stderr(), name, &error);
+            None
+        }
     }
-    fd
 }
 
-// What to read: standard input, or the file that the one argument names; below 0 where there is none, and that has been
-// said.
-fn source() -> i32 {
-    let words = os::arg_count();
+// What to read: standard input, or the file that the one argument names; `None` where there is nothing, and that has
+// been said.
+fn source(rt: &HostRuntime) -> Option<ReadEnd> {
+    let words = ends::arg_count(rt);
     if words < 2 {
-        return libc::STDIN_FILENO;
+        return Some(ReadEnd::Standard(rt.stdin()));
     }
     if 2 < words {
-        return usage();
+        return usage(rt);
     }
-    let mut path = io::buffer();
-    named(&mut path)
+    let mut path = [0u8; 4096];
+    named(rt, &mut path)
 }
 
-fn main() {
-    let fd = source();
-    if fd < 0 {
+fn main(rt: HostRuntime) {
+    let Some(input) = source(&rt) else {
         return;
-    }
-    let mut input = io::large_buffer();
+    };
+    let mut ways = Ways {
+        input,
+        lines: rt.stdout(),
+        errors: rt.stderr(),
+    };
+    let mut input = [0u8; 65536];
     let mut mem = [0u8; 16384];
     let mut out = [0u8; 2047];
-    let mut text = io::large_buffer();
-    run(fd, &mut input, &mut mem, &mut out, &mut text);
+    let mut text = [0u8; 65536];
+    run(&mut ways, &mut input, &mut mem, &mut out, &mut text);
 }

@@ -9,14 +9,14 @@ use lib.ListN.{length, get_or, length-append}
 use lib.Seq.{get_or_at}
 use lib.Dec.{eqb}
 use borrow.Author.Tests.{lt-ltb, eq-eqb}
-use Rattle.octets.specs.Read.{Reader, got, refused, choose, give, ◌>>=◌, byte, le16, le64}
+use Rattle.octets.specs.Read.{Reader, got, refused, choose, give, ◌>>=◌, le16, le64}
 use Rattle.octets.specs.Write.{byte_bytes, le16_bytes, le32_bytes, le64_bytes}
 use Rattle.octets.specs.declared.field.ByteField.{ByteField}
 use Rattle.octets.proofs.RoundTrip.{Reads, reads-le16, reads-le64}
 use Rattle.octets.proofs.Spans.{not-refused}
 use Rattle.ieee802154.specs.Control.{bit_of, control_of, word_of, has_sequence, has_addressing, pans, carried}
 use Rattle.ieee802154.specs.Addressing.{pan_field, address_field, side, sides, no_side, addressing, pan_or, mode_of, field_length, field_bytes}
-use Rattle.ieee802154.specs.Security.{counter_length, key_length, auxiliary_length, auxiliary}
+use Rattle.ieee802154.specs.Security.{counter_length, key_length, auxiliary_length}
 use Rattle.ieee802154.specs.Mac.{sequence_of, repr_of, header, sequence_or, has_byte, suppresses, control_for, length_of, front_bytes, bytes_of}
 use Rattle.ieee802154.specs.RoundTrips.{has_pan, has_address, same, pans_stand, round_trips}
 use Rattle.ieee802154.specs.declared.addr.Address.TheVariants.{Absent, Short, Extended}
@@ -24,7 +24,6 @@ use Rattle.ieee802154.specs.declared.addr.Pan.{Pan}
 use Rattle.ieee802154.specs.declared.addr.PanField.{PanField}
 use Rattle.ieee802154.specs.declared.addr.AddressField.{AddressField}
 use Rattle.ieee802154.specs.declared.control.AddressingMode.{AddressingMode}
-use Rattle.ieee802154.specs.declared.control.Control.{Control}
 use Rattle.ieee802154.specs.declared.control.Carried.{Carried}
 use Rattle.ieee802154.specs.declared.addressing.Side.{Side}
 use Rattle.ieee802154.specs.declared.addressing.Addressing.{Addressing}

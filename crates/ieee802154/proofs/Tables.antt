@@ -1,5 +1,5 @@
 -- The branches of specs/Control.antt are the scope document's table of carried PANs and its rule for refusal 3 (specs/PanTable.antt).
-use Prim.Native.Nat.{ℕ, ◌%◌, ◌/◌, ◌<◌}
+use Prim.Native.Nat.{ℕ, ◌<◌}
 use native.Mathlib.Omega.{arith}
 use mathlib.Core.Path.{◌≡◌, refl}
 use mathlib.Core.Bool.{Bool, true, false, not, ◌&&◌, ◌||◌}

@@ -1,6 +1,6 @@
 -- The scope document's own table of carried PANs for version 2, and its rule for refusal 3, as it gives them ("MAC"). proofs/Tables.antt shows that the
 -- branches of Control.antt are these.
-use Rattle.std.specs.Prelude.{ℕ, Bool, true, false, ◌&&◌, ◌||◌, eqb}
+use Rattle.std.specs.Prelude.{Bool, true, false, ◌&&◌, ◌||◌, eqb}
 use Rattle.octets.specs.Read.{choose}
 use Rattle.ieee802154.specs.Control.{pans}
 use Rattle.ieee802154.specs.declared.control.AddressingMode.{AddressingMode}

@@ -38,7 +38,7 @@ use Rattle.expand.specs.Sum.{no_sum}
 use Rattle.expand.specs.declared.checksum.UdpSum.{UdpSum}
 use Rattle.expand.specs.declared.datagram.Expanded.{Expanded}
 use Rattle.expand.proofs.Datagrams.{expansion-made, at-most-455}
-use Rattle.incoming.specs.Incoming.{of_arrival, framed, arrival, datagram, part, of_payload, scratch_after, link_addresses_of, whole, piece, fragment, payload, payload_in, expanded, expanded_to, Begins, Within, Brings}
+use Rattle.incoming.specs.Incoming.{of_arrival, framed, arrival, of_payload, scratch_after, link_addresses_of, whole, piece, fragment, payload, payload_in, expanded, expanded_to, Begins, Within, Brings}
 use Rattle.incoming.specs.declared.arrival.Arrival.{Arrival}
 use Rattle.incoming.specs.declared.payload.Payload.{Payload}
 use Rattle.incoming.specs.declared.payload.Head.{Head}

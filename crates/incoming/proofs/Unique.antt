@@ -8,7 +8,7 @@ use lib.ListN.{length, take, drop, length-take, length-drop}
 use lib.Dec.{eqb}
 use Rattle.octets.specs.Read.{Answer, is, refused, choose}
 use Rattle.octets.proofs.Unique.{Injective, refusal_of, refusal-back, back, one}
-use Rattle.incoming.specs.Incoming.{of_arrival, Brought, datagram, part, scratch_after, Within, Brings}
+use Rattle.incoming.specs.Incoming.{of_arrival, Brought, datagram, part, Brings}
 use Rattle.incoming.specs.declared.arrival.ArrivalAnswer.{ArrivalAnswer}
 use Rattle.incoming.specs.declared.payload.Payload.{Payload}
 

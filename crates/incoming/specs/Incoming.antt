@@ -1,6 +1,6 @@
 -- What a frame brings, in the scope document's order of checks ("Expansion and the slot table").
 use Rattle.std.specs.Prelude.{ℕ, ◌≤◌, List, ◌≡◌, length, take, drop, replicate, eqb, leb}
-use Rattle.octets.specs.Read.{Answer, is, refused, Placed, and_then, choose}
+use Rattle.octets.specs.Read.{Answer, is, refused, and_then, choose}
 use Rattle.octets.specs.Refusal.{number_of}
 use Rattle.octets.specs.Write.{over}
 use Rattle.octets.specs.declared.field.WordField.{WordField}

@@ -1,20 +1,17 @@
 -- The flow label (RFC 6282, 3.2.1): whatever header is read from bytes, its label has 20 bits, and padding is none of them.
-use Prim.Native.Nat.{ℕ, ◌+◌, ◌*◌, ◌^◌, ◌<◌}
+use Prim.Native.Nat.{ℕ, ◌+◌, ◌*◌}
 use native.Mathlib.Omega.{arith}
 use mathlib.Core.List.{List}
 use mathlib.Core.Path.{◌≡◌}
 use lib.Dec.{eqb}
-use Rattle.octets.specs.Read.{Reader, branch, give, byte, be16, ◌>>=◌}
+use Rattle.octets.specs.Read.{give, byte, be16, ◌>>=◌}
 use Rattle.octets.specs.declared.field.ByteField.{ByteField}
 use Rattle.ieee802154.specs.declared.addr.AddressField.{AddressField}
 use Rattle.sixlowpan.specs.Next.{next_header}
 use Rattle.iphc.specs.Iphc.{base_of, base, contexts, traffic_of, ecn_of, dscp_of, label_of, LabelFits, labelled, class_and_label, ecn_and_label, class_only, traffic, hop_limit, front_rest, front, addresses, repr_of, behind, iphc}
 use Rattle.iphc.specs.declared.label.LabelField.{LabelField}
 use Rattle.iphc.specs.declared.read.Base.{Base}
-use Rattle.iphc.specs.declared.read.Contexts.{Contexts}
 use Rattle.iphc.specs.declared.read.Traffic.{Traffic}
-use Rattle.iphc.specs.declared.read.Front.{Front}
-use Rattle.iphc.specs.declared.header.Repr.{Repr}
 use Rattle.iphc.proofs.Gives.{Gives, gives_all, gives-give, gives_then, gives-map, gives-either, gives-byte, gives-be16}
 
 -- the bits of the first byte above its low four, 2 of ECN and 2 of padding or 4 of padding, are none of the label's

@@ -12,20 +12,19 @@ use Rattle.octets.specs.Read.{Answer, is, refused, Reader, got, choose, branch, 
 use Rattle.octets.specs.Ipv6.{ip, is_unspecified, is_multicast, is_link_local}
 use Rattle.octets.specs.declared.field.ByteField.{ByteField}
 use Rattle.octets.specs.declared.ipv6.Ipv6Addr.{Ipv6Addr}
-use Rattle.octets.proofs.Spans.{Spans, First, not-refused, spans-first, spans-then, spans-branch, spans-guard, spans-map, spans-both, spans-give, spans-refuse, spans-byte, spans-be16, spans-be32, spans-be64}
+use Rattle.octets.proofs.Spans.{Spans, First, not-refused, spans-first, spans-then, spans-branch, spans-guard, spans-map, spans-both, spans-give, spans-byte, spans-be16, spans-be32, spans-be64}
 use Rattle.ieee802154.specs.declared.addr.AddressField.{AddressField}
 use Rattle.sixlowpan.specs.Next.{next_header, next_bit, next_width}
 use Rattle.iphc.specs.Iphc.{base_of, base, contexts, traffic_of, ecn_of, dscp_of, label_of, labelled, class_and_label, ecn_and_label, class_only, traffic, hop_limit, front_rest, front, short_iid, link_iid, having, identifier, full, prefix_of, elided, source, group48, group32, group8, multicast, destination, addresses, repr_of, behind, iphc}
-use Rattle.iphc.specs.Emit.{inline_length, form, full_form, is_short, is_extended, iid_form, src_form, is_group8, is_scoped, scope_of, multicast_form, dst_form, hop_bits, hop_length, source_form, dest_form, length_of}
+use Rattle.iphc.specs.Emit.{inline_length, form, full_form, iid_form, src_form, is_group8, is_scoped, scope_of, multicast_form, dst_form, hop_bits, hop_length, length_of}
 use Rattle.iphc.specs.Widths.{contexts_width, traffic_width, hop_width, identifier_width, source_width, multicast_width, destination_width, base_width}
 use Rattle.sixlowpan.specs.declared.protocol.NextHeader.{NextHeader}
 use Rattle.sixlowpan.specs.declared.protocol.NextHeader.TheVariants.{Compressed, Uncompressed}
-use Rattle.iphc.specs.declared.form.Inline.TheVariants.{Nothing, Bits8, Bits16, Bits32, Bits48, Bits64, Bits128}
+use Rattle.iphc.specs.declared.form.Inline.TheVariants.{Nothing, Bits8, Bits32, Bits48}
 use Rattle.iphc.specs.declared.form.Form.{Form}
 use Rattle.iphc.specs.declared.label.LabelField.{LabelField}
 use Rattle.iphc.specs.declared.read.Base.{Base}
 use Rattle.iphc.specs.declared.read.Contexts.{Contexts}
-use Rattle.iphc.specs.declared.read.Traffic.{Traffic}
 use Rattle.iphc.specs.declared.header.Repr.{Repr}
 use Rattle.sixlowpan.proofs.NextLaws.{spans-next}
 use Rattle.iphc.proofs.RoundTrip.{iid-cases}

@@ -1,5 +1,5 @@
 -- The steps of the compressed header's writer, for `search`, and the lengths of what it writes.
-use Prim.Native.Nat.{ℕ, ◌+◌, ◌≤◌}
+use Prim.Native.Nat.{ℕ, ◌+◌}
 use native.Mathlib.Omega.{arith}
 use mathlib.Core.List.{List, [], ◌++◌}
 use mathlib.Core.Bool.{Bool, true, false}
@@ -8,8 +8,8 @@ use lib.ListN.{length, length-append}
 use lib.Dec.{eqb}
 use Rattle.octets.specs.Read.{choose}
 use Rattle.octets.specs.Write.{put, byte_bytes, be16_bytes, be32_bytes, be64_bytes}
-use Rattle.octets.proofs.Puts.{more, put-nil}
-use Rattle.iphc.specs.Emit.{inline_length, inline_bytes, hop_bits, hop_length, hop_bytes, front_length, front_bytes, base_word, addresses_length, addresses_bytes, source_form, dest_form, length_of, bytes_of}
+use Rattle.octets.proofs.Puts.{more}
+use Rattle.iphc.specs.Emit.{inline_length, inline_bytes, hop_bits, hop_length, hop_bytes, front_length, front_bytes, addresses_length, addresses_bytes, source_form, dest_form, length_of, bytes_of}
 use Rattle.sixlowpan.specs.declared.protocol.NextHeader.{NextHeader}
 use Rattle.sixlowpan.proofs.NextLaws.{length-next, more-next}
 use Rattle.sixlowpan.specs.Next.{next_bytes}

@@ -3,13 +3,13 @@
 use Prim.Native.Nat.{ℕ, ◌+◌, ◌*◌, ◌/◌, ◌%◌, ◌^◌, ◌<◌, ◌≤◌}
 use native.Mathlib.Omega.{arith}
 use mathlib.Core.List.{List, [], ◌++◌, append_assoc}
-use mathlib.Core.Bool.{Bool, true, false, ◌&&◌}
+use mathlib.Core.Bool.{Bool, true, false}
 use mathlib.Core.Option.{Option, none, some}
 use mathlib.Core.Path.{◌≡◌, refl, sym, ap, ap₂, subst, ◌∙◌}
 use lib.ListN.{length}
 use lib.Dec.{eqb, ltb}
 use borrow.Author.Tests.{eq-eqb, ne_eqb, eqb-true, ltb-true}
-use Rattle.octets.specs.Read.{Answer, is, refused, Reader, got, choose, branch, ◌>>=◌, give, refuse, byte, be16, be32, be64}
+use Rattle.octets.specs.Read.{is, Reader, got, choose, branch, ◌>>=◌, give, refuse, byte, be16, be32, be64}
 use Rattle.octets.specs.Write.{over, byte_bytes, be16_bytes, be32_bytes, be64_bytes}
 use Rattle.octets.specs.Ipv6.{ip, link_local, is_unspecified, is_multicast, is_link_local}
 use Rattle.octets.specs.declared.ipv6.Ipv6Addr.{Ipv6Addr}
@@ -17,14 +17,13 @@ use Rattle.octets.specs.declared.field.ByteField.{ByteField}
 use Rattle.octets.proofs.Steps.{and-true}
 use Rattle.octets.proofs.RoundTrip.{Reads, reads_then, reads-last, reads_both, reads-map, reads_as, reads-if, reads-give, reads_byte, reads-be16, reads-be32, reads-be64, emit-then-read}
 use Rattle.ieee802154.specs.Address.{eui64}
-use Rattle.ieee802154.specs.declared.addr.Address.{Address}
 use Rattle.ieee802154.specs.declared.addr.Address.TheVariants.{Absent, Short, Extended}
 use Rattle.ieee802154.specs.declared.addr.AddressField.{AddressField}
 use Rattle.sixlowpan.specs.Next.{next_header, next_bit, next_bytes}
 use Rattle.iphc.specs.Iphc.{base_of, base, contexts, traffic_of, traffic, hop_limit, front_rest, front, short_iid, or_refuse, link_iid, having, identifier, full, prefix_of, elided, source, group48, group32, group8, multicast, destination, addresses, repr_of, behind, iphc}
 use Rattle.iphc.specs.Emit.{inline_bytes, form, full_form, is_short, is_of, is_extended, iid_form, src_form, is_group8, is_scoped, scope_of, multicast_form, dst_form, hop_bits, hop_bytes, base_word, front_bytes, addresses_bytes, source_form, dest_form, length_of, bytes_of}
 use Rattle.sixlowpan.specs.declared.protocol.NextHeader.{NextHeader}
-use Rattle.iphc.specs.declared.form.Inline.TheVariants.{Nothing, Bits8, Bits16, Bits32, Bits48, Bits64, Bits128}
+use Rattle.iphc.specs.declared.form.Inline.TheVariants.{Nothing, Bits8, Bits16, Bits32, Bits48, Bits64}
 use Rattle.iphc.specs.declared.form.Form.{Form}
 use Rattle.iphc.specs.declared.label.LabelField.{LabelField}
 use Rattle.iphc.specs.declared.read.Base.{Base}

@@ -2,7 +2,7 @@
 use Prim.Native.Nat.{ℕ}
 use mathlib.Core.List.{List}
 use mathlib.Core.Path.{◌≡◌, refl, sym, ap, ◌∙◌}
-use mathlib.Core.Option.{Option, none, some}
+use mathlib.Core.Option.{Option}
 use Rattle.octets.specs.Read.{Answer, is, refused, Placed, Read, got, and_then}
 use Rattle.octets.specs.Answers.{of_long}
 use Rattle.octets.specs.Ipv6.{ip}

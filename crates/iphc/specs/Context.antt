@@ -1,6 +1,6 @@
 -- Address contexts (RFC 6282, 3.1.2): prefixes of 64 bits, lent as flat bytes, 8 for each identifier from 0 on; a shorter rest is ignored.
 use Rattle.std.specs.Prelude.{ℕ, ◌*◌, List}
-use Rattle.octets.specs.Read.{Answer, is, refused, Placed, Read, be64}
+use Rattle.octets.specs.Read.{Answer, is, refused, Read, be64}
 use Rattle.octets.specs.Refusal.{number_of}
 use Rattle.iphc.specs.declared.context.PrefixAnswer.{PrefixAnswer}
 

@@ -1,6 +1,6 @@
 -- The compressed IPv6 header, as it is written (RFC 6282, 3): TF = 11 and no context, and each address in the shortest of its modes that
 -- fits, but that an identifier 0000:00ff:fe00:XXXX is elided against a short link-layer address alone.
-use Rattle.std.specs.Prelude.{ℕ, ◌+◌, ◌*◌, ◌/◌, ◌%◌, ◌^◌, List, [], ◌++◌, Bool, true, false, ◌&&◌, ltb, eqb}
+use Rattle.std.specs.Prelude.{ℕ, ◌+◌, ◌*◌, ◌/◌, ◌%◌, ◌^◌, List, [], ◌++◌, Bool, false, ◌&&◌, ltb, eqb}
 use Rattle.std.proofs.Math.Option.{Option, none, some}
 use Rattle.octets.specs.Read.{choose}
 use Rattle.octets.specs.Write.{byte_bytes, be16_bytes, be32_bytes, be64_bytes}

@@ -1,8 +1,7 @@
 -- The compressed IPv6 header, as it is read (RFC 6282, 3).
 use Rattle.std.specs.Prelude.{ℕ, ◌+◌, ◌*◌, ◌/◌, ◌%◌, ◌^◌, ◌<◌, List, eqb}
 use Rattle.std.proofs.Math.Option.{Option, none, some}
-use Rattle.octets.specs.Read.{Answer, is, refused, Placed, Read, Reader, got, and_then, choose, branch, give, refuse, byte, be16, be32, be64, ◌>>=◌}
-use Rattle.octets.specs.Refusal.{number_of}
+use Rattle.octets.specs.Read.{Answer, is, refused, Read, Reader, got, and_then, choose, branch, give, refuse, byte, be16, be32, be64, ◌>>=◌}
 use Rattle.octets.specs.Ipv6.{ip, link_local}
 use Rattle.octets.specs.declared.field.ByteField.{ByteField}
 use Rattle.octets.specs.declared.ipv6.Ipv6Addr.{Ipv6Addr}

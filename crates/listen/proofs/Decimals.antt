@@ -1,8 +1,8 @@
 -- The text of a number: what `text` prints in decimal is it, and it has at most twenty characters.
-use Rattle.std.proofs.Common.{◌≡◌, ℕ, zero, suc, ◌+◌, ◌-◌, ◌/◌, ◌^◌, ◌<◌, ◌≤◌, Bool, true, false, ltb, List, length, sym, refl, ap, ◌∙◌, le_trans, lt_of_lt_of_le, lt_irrefl, eq-or-lt_of_le, arith, ltb-false, ltb-true}
+use Rattle.std.proofs.Common.{◌≡◌, ℕ, zero, suc, ◌-◌, ◌/◌, ◌^◌, ◌<◌, ◌≤◌, Bool, true, false, ltb, List, length, refl, le_trans, lt_of_lt_of_le, lt_irrefl, arith, ltb-false, ltb-true}
 use native.Mathlib.Nat.{pow-le-pow_right}
 use Rattle.octets.specs.Read.{choose}
-use Rattle.io.specs.Digits.{last_digits, IsDigitCount}
+use Rattle.io.specs.Digits.{IsDigitCount}
 use Rattle.text.specs.Text.{Printed, Decimal}
 use Rattle.text.proofs.Printing.{length_digits}
 use Rattle.listen.specs.Lines.{width_in, decimal}

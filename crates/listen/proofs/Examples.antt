@@ -1,13 +1,12 @@
 -- The scope document's printed example: one block with two frames at time 0, and its three lines.
-use Rattle.std.proofs.Common.{◌≡◌, ℕ, zero, suc, ◌+◌, ◌/◌, ◌<◌, ◌≤◌, Bool, true, false, ◌||◌, ltb, List, [], ◌∷◌, ◌++◌, length, get_or, take, replicate, sym, refl, ap, ◌∙◌, append-nil, not-suc-le-zero, arith, le-ltb}
+use Rattle.std.proofs.Common.{◌≡◌, ℕ, zero, suc, ◌+◌, ◌/◌, ◌<◌, ◌≤◌, true, false, List, [], ◌∷◌, ◌++◌, length, get_or, take, replicate, sym, refl, ap, ◌∙◌, arith, le-ltb}
 use lib.ListN.{length-replicate}
 use lib.Seq.{take-length}
-use Rattle.octets.specs.Read.{Answer, is, refused, and_then, choose, byte, le16}
+use Rattle.octets.specs.Read.{Answer, is, refused, and_then, byte, le16}
 use Rattle.octets.specs.Write.{put}
-use Rattle.capture.specs.Block.{Timed, count_of, frames_of, good_block}
-use Rattle.capture.specs.Made.{no_frame, block_of, Fits, Holds}
+use Rattle.capture.specs.Block.{Timed}
+use Rattle.capture.specs.Made.{no_frame, block_of}
 use Rattle.capture.proofs.BlockSteps.{count-whole}
-use Rattle.capture.proofs.Parts.{bytes-cons, bytes-nil}
 use Rattle.capture.proofs.Made.{made-count, made-good, made-frames}
 use Rattle.ieee802154.specs.Control.{supported, says_elements, has_sequence, omits_sequence, has_addressing, carried01, carried}
 use Rattle.ieee802154.specs.Addressing.{pan_field, address_field, side, sides, addressing}
@@ -30,9 +29,9 @@ use Rattle.reassembly.specs.Table.{Call, State, Result, from, slots_at, aged, wi
 use Rattle.reassembly.specs.Fresh.{gate_of, seats, fresh}
 use Rattle.ieee802154.specs.declared.addr.PanField.{PanField}
 use Rattle.receiver.specs.Receive.{key_of, content, brings, frame_call, call_of, tested}
-use Rattle.listen.specs.Lines.{width_in, decimal, end_line}
+use Rattle.listen.specs.Lines.{width_in, decimal}
 use Rattle.capture.specs.File.{pieces, blocks_of, joined}
-use Rattle.listen.specs.Heard.{listed_as, Listener, Listened, frame_result, after_frame, said_of, after_frames, said_of_all, hear_block, starting, then_heard, hear_blocks, hear_all, last_line, beginning, heard}
+use Rattle.listen.specs.Heard.{listed_as, Listener, Listened, frame_result, after_frame, said_of, after_frames, said_of_all, hear_block, starting, hear_blocks, hear_all, last_line, beginning, heard}
 
 -- ---- the frames: from 0001, and the same from 1234
 abbrev frame_from : ℕ → ℕ → Timed

@@ -1,5 +1,5 @@
 -- A block's frames, one turn of the loop at a time: what is done, with what is left to do, is all.
-use Rattle.std.proofs.Common.{◌≡◌, ℕ, suc, ◌+◌, ◌<◌, ◌≤◌, Bool, true, false, leb, List, [], ◌∷◌, length, get_or, drop, sym, refl, ap, ◌∙◌, ap₂, add-one, arith, drop_of_length-le, drop-cons}
+use Rattle.std.proofs.Common.{◌≡◌, ℕ, ◌+◌, ◌<◌, ◌≤◌, Bool, true, false, leb, List, [], ◌∷◌, length, drop, sym, refl, ap, ◌∙◌, ap₂, add-one, arith, drop_of_length-le, drop-cons}
 use Rattle.octets.specs.Read.{choose}
 use Rattle.octets.specs.declared.refusal.Refusal.{Refusal}
 use Rattle.octets.specs.Write.{put}
@@ -11,7 +11,7 @@ use Rattle.capture.proofs.Exact.{frames-length, frames-at}
 use Rattle.capture.proofs.Unique.{told-good, told-bad}
 use Rattle.reassembly.specs.Lists.{count}
 use Rattle.reassembly.specs.Slots.{same_node, same_source, addressed, present}
-use Rattle.reassembly.specs.Parts.{of_outcome, told, output_after}
+use Rattle.reassembly.specs.Parts.{of_outcome}
 use Rattle.reassembly.specs.Table.{Received, step, Gives}
 use Rattle.reassembly.specs.Fresh.{fresh, sources, unfit, refused_list, Begins}
 use Rattle.reassembly.proofs.Fresh.{sources-are, when-fit}
@@ -21,7 +21,7 @@ use Rattle.reassembly.specs.declared.part.Outcome.{Outcome}
 use Rattle.words.specs.Words.{table_in}
 use Rattle.receiver.specs.Receive.{call_of}
 use Rattle.listen.specs.Lines.{frame_line, bad_line, Page, put_line, put_lines}
-use Rattle.listen.specs.Heard.{Standing, standing, Listener, Listened, next, frame_result, after_frame, said_of, after_frames, said_of_all, block_on, hear_block, gateways, starting, Hears}
+use Rattle.listen.specs.Heard.{Standing, standing, Listener, next, frame_result, after_frame, said_of, after_frames, said_of_all, block_on, hear_block, gateways, starting, Hears}
 use Rattle.listen.specs.declared.ear.Ear.{Ear}
 use Rattle.listen.specs.declared.ear.Heard.{Heard}
 

@@ -2,14 +2,13 @@
 -- part by part.
 use Rattle.std.proofs.Common.{◌≡◌, ℕ, zero, suc, ◌+◌, ◌*◌, ◌/◌, ◌^◌, ◌<◌, ◌≤◌, Bool, true, false, List, [], ◌∷◌, ◌++◌, length, get_or, take, drop, sym, refl, ap, ◌∙◌, subst, ap₂, append_assoc, add-zero, arith, length-append, length-drop, le-leb}
 use lib.Seq.{take-append-le, drop-append-le}
-use Rattle.octets.specs.Read.{choose}
 use Rattle.octets.specs.Write.{put}
 use Rattle.octets.proofs.Puts.{put-append}
 use Rattle.expand.proofs.CopyLaws.{length-put}
 use Rattle.io.specs.Digits.{last_digits}
 use Rattle.text.specs.Text.{Printed, Decimal}
 use Rattle.words.proofs.Unique.{table-one}
-use Rattle.listen.specs.Lines.{Page, put_line, put_lines}
+use Rattle.listen.specs.Lines.{put_line, put_lines}
 use Rattle.capture.specs.File.{pieces, blocks_of, joined}
 use Rattle.listen.specs.Heard.{Standing, standing, Listener, Listened, hear_block, then_heard, hear_blocks, hear_all, last_line, beginning, heard, Hears}
 use Rattle.listen.specs.declared.ear.Ear.{Ear}

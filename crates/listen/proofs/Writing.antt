@@ -1,5 +1,5 @@
 -- A line composed piece by piece in a room of 64 bytes, and then put into the lent room.
-use Rattle.std.proofs.Common.{◌≡◌, ℕ, ◌+◌, ◌-◌, ◌^◌, ◌<◌, ◌≤◌, List, [], ◌∷◌, ◌++◌, length, take, drop, sym, refl, ap, ◌∙◌, append_assoc, arith, length-append, take_at, le-leb}
+use Rattle.std.proofs.Common.{◌≡◌, ℕ, ◌+◌, ◌-◌, ◌^◌, ◌<◌, ◌≤◌, List, [], ◌++◌, length, take, drop, sym, refl, ap, ◌∙◌, append_assoc, arith, length-append, take_at, le-leb}
 use Rattle.octets.specs.Write.{put}
 use Rattle.expand.proofs.CopyLaws.{put-inside, length-put}
 use Rattle.text.specs.Text.{Printed, Decimal}

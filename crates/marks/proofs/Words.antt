@@ -18,7 +18,7 @@ use denote.Plain.{UInt}
 use denote.Shadow.{shadow}
 use Rattle.octets.specs.Read.{choose}
 use Rattle.marks.specs.Marks.{same, has_in, fill, bits, unpack, one, val, packs, pack, within}
-use Rattle.marks.proofs.Digits.{choose_no, digit, both-no, choose-swap, length-bits, get_d_bits, digit-zero, digit_shift, low_digit, digit_or, digit_and, in_r, in-yes, in-before, in_after, in-of, in-cong, digit_mask, digit_not, no-digits}
+use Rattle.marks.proofs.Digits.{choose_no, digit, both-no, choose-swap, length-bits, get_d_bits, digit-zero, low_digit, digit_or, digit_and, in_r, in-yes, in-before, in_after, in-of, in-cong, digit_mask, digit_not, no-digits}
 
 pub length-fill : (u m : ℕ) (l : List Bool) → length (fill u m l) ≡ length l
 unfolding fill

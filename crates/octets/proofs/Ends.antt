@@ -5,10 +5,10 @@ use native.Mathlib.Omega.{arith}
 use native.Mathlib.Nat.{lt_of_not-le, not-suc-le-zero, le_of_suc-le-suc}
 use native.Mathlib.Decide.{dec_le}
 use mathlib.Core.List.{List, [], ◌∷◌, ◌++◌}
-use mathlib.Core.Path.{◌≡◌, refl, ap, ◌∙◌}
+use mathlib.Core.Path.{◌≡◌, refl, ap}
 use lib.ListN.{length, get_or, length-append}
 use borrow.Author.Tests.{lt-ltb, le-ltb}
-use Rattle.octets.specs.Read.{refused, Reader, got, and_then, ◌>>=◌, give, byte, be16, be32, be64}
+use Rattle.octets.specs.Read.{refused, Reader, got, ◌>>=◌, give, byte, be16, be32, be64}
 
 pub record Full {A : Type 0} (m : Reader A) (k : ℕ) : Type 0 where
   pub reads : (s : List ℕ) (at : ℕ) → at + k ≤ length s → (x : A) × (m s at ≡ got x (at + k))

@@ -1,17 +1,17 @@
 -- Laws of `put`, and what a writer's calls and tests say of it. `search puts` proves from these a `returns` of a writer.
-use Prim.Native.Nat.{ℕ, suc, ◌+◌, ◌*◌, ◌/◌, ◌%◌, ◌^◌, ◌≤◌, ◌<◌}
-use native.Mathlib.Nat.{add_assoc, add-zero, zero-add, le_trans}
+use Prim.Native.Nat.{ℕ, ◌+◌, ◌/◌, ◌%◌, ◌^◌, ◌≤◌, ◌<◌}
+use native.Mathlib.Nat.{add_assoc, add-zero, zero-add}
 use native.Mathlib.Numerals.{add-one}
 use native.Mathlib.Omega.{arith}
 use mathlib.Core.List.{List, [], ◌∷◌, ◌++◌}
 use mathlib.Core.Bool.{Bool, true, false}
 use mathlib.Core.Path.{◌≡◌, refl, sym, ap, ◌∙◌}
-use lib.ListN.{length, set, drop, take, length-set}
+use lib.ListN.{length, set, drop}
 use lib.Seq.{set_out, sets, sets-eq}
 use lib.Dec.{leb, eqb}
 use borrow.Author.Tests.{le-leb, lt-leb, eq-eqb, ne_eqb}
 use Rattle.octets.specs.Read.{choose}
-use Rattle.octets.specs.Write.{put, over, byte_bytes, be16_bytes, be32_bytes, be64_bytes, le16_bytes, le32_bytes, le64_bytes}
+use Rattle.octets.specs.Write.{put, over, byte_bytes, be16_bytes, be32_bytes, be64_bytes, le16_bytes, le32_bytes}
 
 -- one run after another
 pub put-append : (at : ℕ) (cs bs l : List ℕ) → put at (cs ++ bs) l ≡ put (at + length cs) bs (put at cs l)

@@ -1,16 +1,16 @@
 -- A reader gives back what a writer wrote. `Reads m bs x`: wherever the bytes bs stand, the reader m gives x and passes over just bs.
 -- A round trip is put together as the reader and the bytes are, field by field.
 use Prim.Native.Nat.{ℕ, ◌+◌, ◌*◌, ◌/◌, ◌%◌, ◌^◌, ◌≤◌, ◌<◌}
-use native.Mathlib.Nat.{add_assoc, add-zero, zero-add}
+use native.Mathlib.Nat.{add-zero, zero-add}
 use native.Mathlib.Omega.{arith}
 use mathlib.Core.List.{List, [], ◌∷◌, ◌++◌, append_assoc, append-nil}
 use mathlib.Core.Bool.{Bool, true, false}
 use mathlib.Core.Path.{◌≡◌, refl, sym, ap, subst, ◌∙◌}
-use lib.ListN.{length, get_or, drop, length-append}
+use lib.ListN.{length, drop, length-append}
 use lib.Seq.{get_or_at}
-use lib.Dec.{ltb, eqb}
+use lib.Dec.{eqb}
 use borrow.Author.Tests.{lt-ltb, le-leb, eq-eqb}
-use Rattle.octets.specs.Read.{Answer, is, refused, Placed, Read, Reader, got, and_then, choose, branch, ◌>>=◌, give, refuse, byte, be16, be32, be64, le16, le32, le64}
+use Rattle.octets.specs.Read.{Reader, got, branch, ◌>>=◌, give, refuse, byte, be16, be32, be64, le16, le32, le64}
 use Rattle.octets.specs.Write.{over, byte_bytes, be16_bytes, be32_bytes, be64_bytes, le16_bytes, le32_bytes, le64_bytes}
 
 abbrev pub Reads : {A : Type 0} → Reader A → List ℕ → A → Type 0

@@ -1,6 +1,6 @@
 -- How far a reader goes. `Spans m k`: wherever m gives a value, the place after it is k past the place that it began at, and not past the
 -- end. Put together as the reader is.
-use Prim.Native.Nat.{ℕ, ◌+◌, ◌*◌, ◌≤◌, ◌<◌}
+use Prim.Native.Nat.{ℕ, ◌+◌, ◌≤◌, ◌<◌}
 use native.Mathlib.Omega.{arith}
 use mathlib.Core.List.{List}
 use mathlib.Core.Bool.{Bool, true, false}
@@ -9,7 +9,7 @@ use mathlib.Core.Path.{◌≡◌, refl, ap, subst, ◌∙◌}
 use lib.ListN.{length, get_or}
 use lib.Dec.{ltb, leb}
 use borrow.Author.Tests.{ltb-true, leb-true}
-use Rattle.octets.specs.Read.{Answer, is, refused, Placed, Read, Reader, got, and_then, choose, branch, ◌>>=◌, give, refuse, byte, be16, be32, be64, le16, le32, le64, skip}
+use Rattle.octets.specs.Read.{Answer, is, refused, Read, Reader, got, and_then, choose, branch, ◌>>=◌, give, refuse, byte, be16, be32, be64, le16, le32, le64, skip}
 
 abbrev pub Spans : {A : Type 0} → Reader A → ℕ → Type 0
 Spans {A} m k = (s : List ℕ) (at : ℕ) (a : A) (n : ℕ) → at ≤ length s → m s at ≡ got a n → (n ≡ at + k) × (n ≤ length s)

@@ -3,7 +3,7 @@ use Prim.Native.Nat.{ℕ, ◌-◌}
 use mathlib.Core.List.{List, [], ◌∷◌}
 use lib.ListN.{get_or}
 use mathlib.Core.Path.{◌≡◌, refl, sym, ap, ◌∙◌}
-use Rattle.octets.specs.Read.{Answer, is, refused, Placed, Read, choose}
+use Rattle.octets.specs.Read.{Answer, is, refused, Placed}
 use Rattle.octets.specs.Refusal.{number_of}
 use Rattle.octets.specs.Answers.{of_byte, of_word, of_wide, of_long, of_skip}
 use Rattle.octets.specs.Write.{of_written, wrote, Emits}

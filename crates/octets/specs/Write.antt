@@ -1,5 +1,5 @@
 -- What a writer writes: a number's bytes; and where a header's bytes go in the lent room.
-use Rattle.std.specs.Prelude.{ℕ, ◌+◌, ◌*◌, ◌/◌, ◌%◌, ◌^◌, ◌≡◌, List, [], ◌∷◌, ◌++◌, length, set, drop, leb}
+use Rattle.std.specs.Prelude.{ℕ, ◌+◌, ◌/◌, ◌%◌, ◌^◌, ◌≡◌, List, [], ◌∷◌, ◌++◌, length, set, drop, leb}
 use Rattle.octets.specs.Read.{Answer, is, refused, choose}
 use Rattle.octets.specs.Refusal.{number_of}
 use Rattle.octets.specs.declared.write.Written.{Written}

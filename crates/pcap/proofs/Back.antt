@@ -2,13 +2,13 @@
 use Prim.Native.Nat.{ℕ, zero, suc, ◌+◌, ◌*◌, ◌/◌, ◌%◌, ◌^◌, ◌≤◌, ◌<◌}
 use native.Mathlib.Omega.{arith}
 use mathlib.Core.Path.{◌≡◌, refl, sym, ap, ap₂, subst, ◌∙◌}
-use mathlib.Core.List.{List, [], ◌∷◌, ◌++◌, append_assoc, append-nil}
+use mathlib.Core.List.{List, [], ◌∷◌, ◌++◌, append_assoc}
 use mathlib.Core.Bool.{Bool, true, false, ◌&&◌}
 use lib.Dec.{eqb, leb, ltb}
-use lib.ListN.{length, get_or, take, drop, length-append, length-take, length-drop, drop_of_length-le}
+use lib.ListN.{length, get_or, take, drop, length-append, length-drop, drop_of_length-le}
 use lib.Seq.{length-take-le}
-use borrow.Author.Tests.{eqb-true, leb-true, ltb-true, leb-false}
-use Rattle.octets.specs.Read.{Answer, is, refused, Placed, Read, Reader, got, and_then, choose, branch, ◌>>=◌, give, refuse, le16, le32}
+use borrow.Author.Tests.{eqb-true, leb-true, ltb-true}
+use Rattle.octets.specs.Read.{is, refused, Read, Reader, got, and_then, choose, branch, ◌>>=◌, give, refuse, le16, le32}
 use Rattle.octets.specs.Write.{le16_bytes, le32_bytes}
 use Rattle.octets.proofs.Spans.{not-refused, spans-le16, spans-le32}
 use Rattle.octets.proofs.Steps.{and-true}

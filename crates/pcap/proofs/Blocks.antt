@@ -1,22 +1,22 @@
 -- A capture of blocks, both ways: reading gives back the frames of which it was written (`blocks-read`); the frames read are what both
 -- forms can hold (`blocks-hold`); and where each block but the last is full, the bytes are what is written of the frames (`blocks-back`).
-use Prim.Native.Nat.{ℕ, zero, suc, ◌+◌, ◌*◌, ◌/◌, ◌^◌, ◌≤◌, ◌<◌}
+use Prim.Native.Nat.{ℕ, zero, suc, ◌+◌, ◌*◌, ◌^◌, ◌≤◌, ◌<◌}
 use native.Mathlib.Omega.{arith}
 use mathlib.Core.Path.{◌≡◌, refl, sym, ap, ap₂, subst, ◌∙◌}
-use mathlib.Core.List.{List, [], ◌∷◌, ◌++◌, append-nil, append_assoc}
+use mathlib.Core.List.{List, [], ◌∷◌, ◌++◌, append-nil}
 use mathlib.Core.Bool.{Bool, true, false}
-use lib.ListN.{length, get_or, take, drop, length-append, length-take, length-drop, take-append-drop}
+use lib.ListN.{length, get_or, take, drop, length-append, length-drop, take-append-drop}
 use lib.Seq.{take_at, drop_at, take_all}
 use Rattle.octets.specs.Read.{Answer, is, refused, and_then, choose}
 use Rattle.octets.specs.Write.{le16_bytes}
 use Rattle.octets.proofs.Spans.{not-refused}
 use Rattle.capture.specs.Block.{Timed, count_of, frames_of, good_block, judged}
 use Rattle.capture.specs.Fcs.{fcs_of}
-use Rattle.capture.specs.Made.{no_frame, body_of, block_of, Bytes, Fits, Holds}
-use Rattle.capture.proofs.Parts.{bytes_take, bytes_drop, bytes-append, bytes-nil}
+use Rattle.capture.specs.Made.{no_frame, body_of, block_of, Bytes, Fits}
+use Rattle.capture.proofs.Parts.{bytes_take, bytes_drop}
 use Rattle.capture.proofs.Made.{body-length, made-judged, made-frames}
-use Rattle.capture.proofs.Exact.{frames-length, good-holds, good-made, made_bytes}
-use Rattle.pcap.specs.Frames.{blocks_from, blocks_of, block_count, frames_from, frames_of_capture, most_frames}
+use Rattle.capture.proofs.Exact.{frames-length, good-holds, good-made}
+use Rattle.pcap.specs.Frames.{blocks_from, blocks_of, block_count, frames_from, frames_of_capture}
 use Rattle.pcap.specs.Moves.{Holdable, FullFrom, Full}
 
 abbrev pub Each : List Timed → Type 0

@@ -10,7 +10,7 @@ use lib.ListN.{length, get_or, set, take, drop, length-append, length-take, leng
 use lib.Seq.{take_all, drop-drop, drop-cons}
 use borrow.Author.Tests.{lt-ltb, le-ltb, le-leb, lt-leb, eqb-true, leb-true, leb-false}
 use Rattle.octets.specs.Read.{Answer, is, refused, and_then, choose}
-use Rattle.octets.specs.Write.{put, le16_bytes, le32_bytes, wrote, over, of_written}
+use Rattle.octets.specs.Write.{put, le16_bytes, le32_bytes, of_written}
 use Rattle.octets.specs.Refusal.{number_of}
 use Rattle.octets.specs.declared.refusal.Refusal.{Refusal}
 use Rattle.octets.specs.declared.write.Written.{Written}

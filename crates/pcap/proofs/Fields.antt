@@ -1,13 +1,12 @@
 -- What the functions of read need: the tests of a time, and the bytes of a frame.
-use Prim.Native.Nat.{ℕ, ◌+◌, ◌*◌, ◌-◌, ◌/◌, ◌%◌, ◌^◌, ◌≤◌, ◌<◌}
-use native.Mathlib.Omega.{arith}
-use mathlib.Core.Path.{◌≡◌, refl, sym, ap, ap₂, ◌∙◌}
+use Prim.Native.Nat.{ℕ, ◌+◌, ◌*◌, ◌/◌, ◌%◌, ◌^◌, ◌≤◌, ◌<◌}
+use mathlib.Core.Path.{◌≡◌, refl, sym, ap, ◌∙◌}
 use mathlib.Core.List.{List}
 use mathlib.Core.Bool.{Bool, true, false, ◌&&◌}
-use lib.Dec.{eqb, leb, ltb}
+use lib.Dec.{leb}
 use lib.ListN.{length, take, drop}
 use borrow.Author.Tests.{lt-ltb, le-ltb, eq-eqb, ne_eqb}
-use Rattle.octets.specs.Read.{Answer, is, refused, Read, got, and_then, choose, skip}
+use Rattle.octets.specs.Read.{refused, Read, got, and_then, choose, skip}
 use Rattle.octets.specs.Refusal.{number_of}
 use Rattle.octets.specs.Answers.{of_skip}
 use Rattle.octets.specs.declared.refusal.Refusal.{Refusal}

@@ -7,10 +7,9 @@ use mathlib.Core.Path.{◌≡◌, refl, sym, ap, ap₂, subst, ◌∙◌}
 use mathlib.Core.List.{List, [], ◌∷◌, ◌++◌, append_assoc, append-nil}
 use mathlib.Core.Bool.{Bool, true, false}
 use lib.Dec.{leb, ltb}
-use lib.ListN.{length, get_or, set, take, drop, replicate, length-append, length-replicate, length-take, length-drop}
+use lib.ListN.{length, set, take, drop, replicate, length-append, length-replicate, length-take, length-drop}
 use lib.Seq.{sets, sets-eq, take_at, drop_at, length-take-le}
-use Rattle.octets.specs.Read.{Answer, is, refused, Read, got, and_then, choose, give}
-use Rattle.octets.specs.Refusal.{number_of}
+use Rattle.octets.specs.Read.{is, refused, Read, got, and_then, choose, give}
 use Rattle.octets.specs.Write.{put, of_written, byte_bytes, le16_bytes, le32_bytes}
 use Rattle.octets.specs.Answers.{of_skip}
 use Rattle.octets.specs.declared.cursor.Skipped.{Skipped}
@@ -29,7 +28,6 @@ use Rattle.pcap.specs.Moves.{from_pcap, sized, placed, lengthed, counted}
 use Rattle.pcap.specs.Answers.{of_frame}
 use Rattle.pcap.specs.Placing.{value_or, next_or, frame_at, after_at, frames_at, behind_at, front_bytes, places_bytes}
 use Rattle.pcap.specs.declared.read.FrameRead.{FrameRead}
-use Rattle.pcap.proofs.There.{frame-length}
 use Rattle.pcap.proofs.Back.{took, passed, given, back_head, frame_back, pcap-holds}
 use Rattle.pcap.proofs.Blocks.{Each, block-length}
 use Rattle.pcap.proofs.Carrying.{move-short, move-made}

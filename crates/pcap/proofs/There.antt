@@ -2,14 +2,14 @@
 use Prim.Native.Nat.{ℕ, zero, suc, ◌+◌, ◌*◌, ◌/◌, ◌%◌, ◌^◌, ◌≤◌, ◌<◌}
 use native.Mathlib.Nat.{add-zero, zero-add}
 use native.Mathlib.Omega.{arith}
-use mathlib.Core.Path.{◌≡◌, refl, sym, ap, subst, ◌∙◌}
-use mathlib.Core.List.{List, [], ◌∷◌, ◌++◌, append_assoc, append-nil}
-use mathlib.Core.Bool.{Bool, true, false, ◌&&◌}
-use lib.Dec.{eqb, leb, ltb}
-use lib.ListN.{length, get_or, take, drop, length-append}
+use mathlib.Core.Path.{◌≡◌, refl, sym, ap, ◌∙◌}
+use mathlib.Core.List.{List, [], ◌∷◌, ◌++◌, append_assoc}
+use mathlib.Core.Bool.{true}
+use lib.Dec.{eqb, leb}
+use lib.ListN.{length, get_or, length-append}
 use lib.Seq.{take_at, drop_at}
 use borrow.Author.Tests.{eq-eqb, le-leb, lt-leb, lt-ltb}
-use Rattle.octets.specs.Read.{is, Reader, got, and_then, choose, branch, ◌>>=◌, give, refuse, le16, le32}
+use Rattle.octets.specs.Read.{is, Reader, got, branch, ◌>>=◌, give, refuse, le16, le32}
 use Rattle.octets.specs.Write.{le16_bytes, le32_bytes}
 use Rattle.octets.proofs.RoundTrip.{Reads, reads_then, reads-last, reads-if, reads_as, reads-map, reads-give, reads-le16, reads-le32}
 use Rattle.capture.specs.Block.{Timed}

@@ -1,15 +1,15 @@
 -- A reader reads on from any place as from the front of what is left (`Shifts`), and sees no further than the bytes that it takes
 -- (`Near`): so a window onto pcap that holds three frames tells as much as all of it.
-use Prim.Native.Nat.{ℕ, zero, suc, ◌+◌, ◌*◌, ◌/◌, ◌%◌, ◌^◌, ◌≤◌, ◌<◌, min}
+use Prim.Native.Nat.{ℕ, zero, suc, ◌+◌, ◌*◌, ◌/◌, ◌^◌, ◌≤◌, ◌<◌}
 use native.Mathlib.Omega.{arith}
 use mathlib.Core.Path.{◌≡◌, refl, sym, ap, ap₂, ◌∙◌}
-use mathlib.Core.List.{List, [], ◌∷◌, ◌++◌}
+use mathlib.Core.List.{List, [], ◌∷◌}
 use mathlib.Core.Bool.{Bool, true, false}
 use lib.Dec.{eqb, leb, ltb}
 use lib.ListN.{length, get_or, take, drop, length-take, length-drop}
 use lib.Seq.{get_or-take, get_or-drop, take-take, drop-drop}
 use borrow.Author.Tests.{lt-ltb, le-ltb, le-leb, lt-leb, ltb-true, ltb-false, leb-true, leb-false}
-use Rattle.octets.specs.Read.{Answer, is, refused, Read, Reader, got, and_then, choose, branch, ◌>>=◌, give, refuse, byte, le16, le32}
+use Rattle.octets.specs.Read.{is, refused, Read, Reader, got, and_then, choose, branch, ◌>>=◌, give, refuse, byte, le16, le32}
 use Rattle.octets.proofs.Spans.{Spans, spans-byte, spans-le16, spans-le32, spans-then, spans-give, spans-guard}
 use Rattle.capture.specs.Block.{Timed}
 use Rattle.capture.specs.Made.{Bytes}

@@ -1,5 +1,5 @@
 -- Frames of pcap, one after the other from a place on, as they go into blocks.
-use Rattle.std.specs.Prelude.{ℕ, zero, suc, List, [], ◌∷◌, ◌++◌, length}
+use Rattle.std.specs.Prelude.{ℕ, zero, suc, List, [], ◌∷◌, ◌++◌}
 use Rattle.octets.specs.Read.{is, refused, Read}
 use Rattle.octets.specs.Write.{le32_bytes}
 use Rattle.capture.specs.Block.{Timed}

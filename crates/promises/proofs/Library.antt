@@ -7,8 +7,8 @@ use mathlib.Core.Bool.{false}
 use mathlib.Core.List.{List, [], ◌∷◌, ◌++◌, map, map-append}
 use lib.ListN.{length}
 use Rattle.octets.specs.Read.{is}
-use Rattle.reassembly.specs.Slots.{owner, is_gate, held, free}
-use Rattle.reassembly.specs.Parts.{Part, Reply, kept, out, refused, told, output_after}
+use Rattle.reassembly.specs.Slots.{owner, is_gate, held}
+use Rattle.reassembly.specs.Parts.{Reply, kept, out, refused, told, output_after}
 use Rattle.reassembly.specs.Table.{State, step, Ready}
 use Rattle.reassembly.specs.Fresh.{gate_of, Gateways, begun}
 use Rattle.reassembly.specs.declared.slot.Source.{Source}
@@ -19,7 +19,7 @@ use Rattle.receiver.specs.Names.{named}
 use Rattle.lift.specs.Face.{packed, gateway_of, gateways, list_answer, table_begun, Answers, received}
 use Rattle.lift.proofs.Lists.{begun_fresh}
 use Rattle.promises.specs.Cuttings.{Cutting}
-use Rattle.promises.specs.Frames.{Turn, left, call_in, end_of, openings, endings, MeansPart, Supposed, HandedOut}
+use Rattle.promises.specs.Frames.{Turn, left, call_in, end_of, Supposed}
 use Rattle.promises.specs.Library.{LiftTurn, as_turn, RanIn, ConcludedIn}
 use Rattle.promises.specs.Demands.{LiftDemand3, LiftAtMostThree, LiftEightSlots, LiftNeverMeet}
 use Rattle.promises.proofs.Frames.{Went, KeptIn, Replies, replies, replies-ready, out-front, went-three, went-none, went-eight, went-apart}

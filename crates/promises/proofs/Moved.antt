@@ -19,7 +19,6 @@ use Rattle.iphc.specs.Iphc as Iphc
 use Rattle.iphc.specs.declared.read.Base.{Base}
 use Rattle.iphc.specs.declared.read.Contexts.{Contexts}
 use Rattle.iphc.specs.declared.read.Traffic.{Traffic}
-use Rattle.iphc.specs.declared.header.Repr as Header
 use Rattle.iphc.specs.declared.label.LabelField.{LabelField}
 use Rattle.expand.specs.Full.{is_absent}
 use Rattle.expand.specs.Chain.{Chain, rest, udp_then, extension, ipv6, Link, udp_link, ext_link, inner_link, Around, full_number, bad_length, octets, ext_data, ext_body, inner_byte, ext_kind, udp_step, link_of, link, within, past, inside, remaining, behind_next, header_then, udp_end, onward, chain, chained}

@@ -1,6 +1,5 @@
 -- Each byte handed out from a slot came in a frame of the run, whose headers name the key.
 use Prim.Native.Nat.{ℕ, ◌+◌, ◌*◌, ◌-◌, ◌≤◌, ◌<◌}
-use native.Mathlib.Omega.{arith}
 use mathlib.Core.Path.{◌≡◌, refl, sym, ap, ◌∙◌}
 use mathlib.Core.Logic.{◌⊎◌, inl, inr}
 use mathlib.Core.Bool.{Bool, true, false, ◌&&◌}
@@ -16,7 +15,7 @@ use Rattle.reassembly.specs.Fresh.{Gateways, begun}
 use Rattle.reassembly.specs.declared.slot.Source.{Source}
 use Rattle.reassembly.specs.declared.slot.Key.{Key}
 use Rattle.reassembly.specs.declared.part.Outcome.{Outcome}
-use Rattle.reassembly.specs.Cover.{In, Has, MadeOf}
+use Rattle.reassembly.specs.Cover.{In, Has}
 use Rattle.reassembly.proofs.Promises.{each-byte}
 use Rattle.receiver.specs.Names.{named}
 use Rattle.receiver.proofs.Names.{call-part}

@@ -1,13 +1,12 @@
 -- The frames of a cutting that we send, as the receiver's definitions read them: each brings its piece.
-use Prim.Native.Nat.{ℕ, ◌+◌, ◌-◌, ◌*◌, ◌/◌, ◌%◌, ◌≤◌, ◌<◌}
+use Prim.Native.Nat.{ℕ, ◌/◌, ◌≤◌, ◌<◌}
 use native.Mathlib.Omega.{arith}
-use mathlib.Core.List.{List, [], ◌∷◌, ◌++◌}
-use mathlib.Core.Bool.{Bool, true, false, ◌&&◌}
-use mathlib.Core.Path.{◌≡◌, refl, sym, ap, ◌∙◌}
-use lib.Dec.{eqb}
-use lib.ListN.{length, take, drop}
+use mathlib.Core.List.{List, ◌++◌}
+use mathlib.Core.Bool.{true}
+use mathlib.Core.Path.{◌≡◌, refl, ◌∙◌}
+use lib.ListN.{length}
 use borrow.Author.Tests.{ne_eqb}
-use Rattle.octets.specs.Read.{Answer, is, refused, and_then, choose}
+use Rattle.octets.specs.Read.{is}
 use Rattle.octets.proofs.Steps.{and-true}
 use Rattle.ieee802154.specs.Address.{is_present}
 use Rattle.ieee802154.specs.declared.addr.PanField.{PanField}
@@ -17,25 +16,24 @@ use Rattle.ieee802154.proofs.RoundTrips.{no-elements}
 use Rattle.sixlowpan.specs.Dispatch.{dispatch}
 use Rattle.sixlowpan.specs.declared.dispatch.SixlowpanPacket.{SixlowpanPacket}
 use Rattle.sixlowpan.specs.declared.dispatch.SixlowpanPacket.TheVariants.{FragmentHeader, IphcHeader}
-use Rattle.sixlowpan.specs.declared.frag.Repr.TheVariants.{FirstFragment, Fragment}
 use Rattle.expand.proofs.SumLaws.{Bytes}
-use Rattle.incoming.specs.Incoming.{framed, Brought, datagram, part, whole, piece, fragment, payload}
+use Rattle.incoming.specs.Incoming.{framed, whole, piece, fragment, payload}
 use Rattle.incoming.specs.declared.arrival.Arrival.{Arrival}
 use Rattle.incoming.proofs.Relayed.{direct, dispatched}
 use Rattle.reassembly.specs.Slots.{node_of, addressed}
 use Rattle.receiver.specs.Receive.{key_of, content, frame_call, brings}
 use Rattle.cutting.specs.Fields.{is_ours}
-use Rattle.cutting.specs.Head.{mac_of, mac_length, covers}
+use Rattle.cutting.specs.Head.{mac_of, mac_length}
 use Rattle.cutting.specs.Pieces.{pieces}
 use Rattle.cutting.specs.Cut.{plan_of, middle, part_of, frame_of, has_both}
 use Rattle.cutting.specs.declared.link.Link.{Link}
 use Rattle.cutting.specs.declared.piece.Piece.{Piece}
 use Rattle.cutting.specs.declared.piece.Piece.TheVariants.{Whole, First, Later}
 use Rattle.cutting.proofs.WriteLaws.{Ready}
-use Rattle.cutting.proofs.Backs.{Ours, ours-facts}
-use Rattle.cutting.proofs.Tiling.{Each, Good, FirstPart, whole-within, first-within, later-within, pieces-each}
+use Rattle.cutting.proofs.Backs.{ours-facts}
+use Rattle.cutting.proofs.Tiling.{Each, FirstPart, whole-within, first-within, later-within, pieces-each}
 use Rattle.cutting.proofs.Trips.{frame-mac, whole-dispatch, first-dispatch, later-dispatch, whole-expands, first_frag, later-frag, first-expands, later-part}
-use Rattle.promises.specs.Sent.{key_for, part_for, call_for}
+use Rattle.promises.specs.Sent.{call_for}
 
 present-node : (a : Address) → is_present a ≡ true → addressed (node_of a) ≡ true
 unfolding addressed

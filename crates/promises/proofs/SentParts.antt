@@ -1,19 +1,19 @@
 -- The parts that a receiver makes of the frames that we send are a cutting of the datagram.
-use Prim.Native.Nat.{ℕ, ◌+◌, ◌-◌, ◌*◌, ◌/◌, ◌%◌, ◌≤◌, ◌<◌, min}
+use Prim.Native.Nat.{ℕ, ◌+◌, ◌-◌, ◌*◌, ◌%◌, ◌≤◌, ◌<◌}
 use native.Mathlib.Nat.{lt_of_not-le}
 use native.Mathlib.Decide.{dec_le}
 use native.Mathlib.Omega.{arith}
-use mathlib.Core.List.{List, [], ◌∷◌, ◌++◌, map}
-use mathlib.Core.Bool.{Bool, true, false, ◌&&◌, ◌||◌}
+use mathlib.Core.List.{List, [], ◌∷◌, map}
+use mathlib.Core.Bool.{Bool, true, false, ◌||◌}
 use mathlib.Core.Logic.{◌⊎◌, inl, inr}
 use mathlib.Core.Path.{◌≡◌, refl, sym, ap, subst, ◌∙◌}
-use lib.Dec.{eqb, leb}
+use lib.Dec.{eqb}
 use lib.ListN.{length, get_or, take, drop, length-take, length-drop}
 use lib.Seq.{get_or-take, get_or-drop, take_all}
 use borrow.Author.Tests.{le-leb, eq-eqb}
 use Rattle.octets.specs.Read.{choose}
-use Rattle.reassembly.specs.Cover.{In, Has, Covers}
-use Rattle.reassembly.specs.Parts.{Part, part_of, fits_in, fits, finish}
+use Rattle.reassembly.specs.Cover.{In, Has}
+use Rattle.reassembly.specs.Parts.{Part, fits_in, fits}
 use Rattle.expand.specs.Sum.{no_sum, carried_at, was_elided, summed_by}
 use Rattle.cutting.specs.Fields.{is_udp}
 use Rattle.cutting.specs.Head.{covers, sum_sent}

@@ -1,12 +1,11 @@
 -- The frames that we send, in any order, each at least once, fed as demand 3 asks to a table that lists the source address, hand out the same
 -- datagram.
-use Prim.Native.Nat.{ℕ, ◌+◌, ◌-◌, ◌*◌, ◌≤◌, ◌<◌}
+use Prim.Native.Nat.{ℕ, ◌+◌, ◌-◌, ◌≤◌, ◌<◌}
 use native.Mathlib.Omega.{arith}
 use mathlib.Core.List.{List, [], ◌∷◌, ◌++◌, map}
 use mathlib.Core.Bool.{true}
-use mathlib.Core.Logic.{◌⊎◌, inl, inr}
+use mathlib.Core.Logic.{inl, inr}
 use mathlib.Core.Path.{◌≡◌, refl, sym, ap, subst, ◌∙◌}
-use lib.Dec.{ltb, leb}
 use lib.ListN.{length, drop}
 use borrow.Author.Tests.{le-leb, le-ltb}
 use Rattle.octets.specs.Read.{is}
@@ -15,7 +14,7 @@ use Rattle.reassembly.specs.Cover.{In, Has, Covers}
 use Rattle.reassembly.specs.Fresh.{begun}
 use Rattle.reassembly.specs.Parts.{Part, fits, out, told}
 use Rattle.reassembly.specs.Slots.{owner, gates_of, is_gate, held}
-use Rattle.reassembly.specs.Table.{Call, part, from, State, lent_call, comes, pass, from_gate, step, Gives}
+use Rattle.reassembly.specs.Table.{part, from, State, lent_call, comes, pass, from_gate, step, Gives}
 use Rattle.reassembly.specs.declared.slot.Key.{Key}
 use Rattle.reassembly.specs.declared.slot.Source.{Source}
 use Rattle.reassembly.specs.declared.part.Outcome.{Outcome}
@@ -30,12 +29,11 @@ use Rattle.cutting.specs.Pieces.{whole_length, pieces}
 use Rattle.cutting.specs.Cut.{plan_of, frame_of, cut}
 use Rattle.cutting.specs.declared.link.Link.{Link}
 use Rattle.cutting.specs.declared.piece.Piece.{Piece}
-use Rattle.cutting.specs.declared.piece.Piece.TheVariants.{Whole, First, Later}
+use Rattle.cutting.specs.declared.piece.Piece.TheVariants.{Whole}
 use Rattle.cutting.proofs.Cuttings.{cut-was, cut-ready}
-use Rattle.cutting.proofs.Tiling.{Each, pieces-each, start_of, end_of, pieces-chain}
+use Rattle.cutting.proofs.Tiling.{Each, pieces-each, start_of, pieces-chain}
 use Rattle.promises.specs.Runs.{came}
 use Rattle.promises.specs.Frames.{Turn, call_in, Ran, end_of as ends_at, meant, MeansPart, parts_of, Supposed, Concluded}
-use Rattle.promises.specs.Cuttings.{Cutting}
 use Rattle.promises.specs.Sent.{sender, key_for, part_for, call_for, SumRight, SentSupposed}
 use Rattle.promises.proofs.Engine.{In-left, In-right}
 use Rattle.promises.proofs.Frames.{part-one, came-in, out-front, demand-3}

@@ -1,9 +1,9 @@
 -- A datagram of 1,280 bytes, in bytes, cut at 127 and at 80: twelve and twenty frames, which go to a fresh table backwards and come out whole.
 use Prim.Native.Nat.{ℕ, ◌+◌, ◌-◌, ◌≤◌, ◌<◌}
 use native.Mathlib.Omega.{arith}
-use mathlib.Core.List.{List, [], ◌∷◌, ◌++◌, map, reverse}
+use mathlib.Core.List.{List, [], ◌∷◌, map, reverse}
 use mathlib.Core.Bool.{Bool, true, false, ◌&&◌}
-use mathlib.Core.Path.{◌≡◌, refl, sym, ap, ◌∙◌}
+use mathlib.Core.Path.{◌≡◌, refl, ap, ◌∙◌}
 use lib.Dec.{ltb}
 use lib.ListN.{length, replicate}
 use borrow.Author.Tests.{ltb-true}
@@ -26,11 +26,10 @@ use Rattle.cutting.specs.Head.{mac_length, head_length, covers, next_of, ip_of, 
 use Rattle.cutting.specs.Pieces.{piece_from, later_pieces, whole_length, first_part, later_room, pieces}
 use Rattle.cutting.specs.Cut.{plan_of, frame_of, in_range, has_both, cut}
 use Rattle.cutting.specs.declared.link.Link.{Link}
-use Rattle.cutting.specs.declared.piece.Plan.{Plan}
 use Rattle.cutting.specs.declared.piece.Piece.{Piece}
 use Rattle.cutting.specs.declared.piece.Piece.TheVariants.{First, Later}
 use Rattle.promises.specs.Frames.{end_of}
-use Rattle.promises.specs.Library.{LiftTurn, as_turn, ConcludedIn}
+use Rattle.promises.specs.Library.{as_turn, ConcludedIn}
 use Rattle.promises.specs.Sent.{key_for, fed_turn, fed, SumRight}
 use Rattle.promises.proofs.SentLibrary.{fed-backwards}
 

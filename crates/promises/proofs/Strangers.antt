@@ -1,20 +1,20 @@
 -- "0 for anything that is no gateway" (include/lift.h): only gateways hold slots.
-use Prim.Native.Nat.{ℕ, ◌+◌, ◌≤◌}
+use Prim.Native.Nat.{ℕ, ◌≤◌}
 use native.Mathlib.Omega.{arith}
-use mathlib.Core.Path.{◌≡◌, refl, sym, ap, ◌∙◌}
-use mathlib.Core.Bool.{Bool, true, false, not, ◌&&◌}
+use mathlib.Core.Path.{◌≡◌, refl, ◌∙◌}
+use mathlib.Core.Bool.{true, false}
 use mathlib.Core.List.{List, [], ◌∷◌}
 use lib.ListN.{length}
 use Rattle.reassembly.specs.Lists.{bit, count}
 use Rattle.reassembly.specs.Slots.{same_source, owner, busy, is_of, gates_of, is_gate, held}
-use Rattle.reassembly.specs.Table.{Call, State, run}
+use Rattle.reassembly.specs.Table.{Call, run}
 use Rattle.reassembly.specs.Fresh.{Gateways, begun}
 use Rattle.reassembly.specs.declared.slot.Source.{Source}
 use Rattle.reassembly.specs.declared.slot.Slot.{Slot}
 use Rattle.reassembly.proofs.Tests.{by-test, and_left, and_right}
 use Rattle.reassembly.proofs.Slots.{same_source-eq}
-use Rattle.reassembly.proofs.Gateways.{stray, Sound}
-use Rattle.reassembly.proofs.Runs.{Good, gates-fresh, fresh-good, run-good, run-gates}
+use Rattle.reassembly.proofs.Gateways.{stray}
+use Rattle.reassembly.proofs.Runs.{gates-fresh, fresh-good, run-good, run-gates}
 
 -- a slot of what is no gateway is a stray one
 strays : (gs : List Source) (g : Source) (s : Slot) → is_gate g gs ≡ false → is_of g s ≡ true → stray gs s ≡ true

@@ -1,7 +1,7 @@
 -- Demand 1, "a refusal writes no lent byte", as the change requests amend it ("no refusal but 17"), of the whole call: of `receive` and of
 -- `lift_receive`, the lent memory and the output, on every table, frame, context and lent slice, of every answer that meets the contract. 17 too
 -- leaves the output as it was, and the memory outside the part's own range in one slot. With it what a repeat and a part that is taken write.
-use Prim.Native.Nat.{ℕ, ◌+◌, ◌≤◌}
+use Prim.Native.Nat.{ℕ, ◌+◌}
 use native.Mathlib.Omega.{arith}
 use mathlib.Core.Path.{◌≡◌, refl, sym, ap, subst, ◌∙◌}
 use mathlib.Core.Bool.{true}

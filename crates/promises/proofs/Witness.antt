@@ -37,7 +37,7 @@ use Rattle.reassembly.specs.declared.table.Gateway.{Gateway}
 use Rattle.receiver.proofs.Names.{frame-part}
 use Rattle.promises.proofs.Frames.{good-next, call-is, ran-left, as-calls, demand-3}
 use Rattle.promises.proofs.Relayed.{relayed-frame, relayed-brings}
-use Rattle.promises.proofs.Worked.{Other, neighbour, building, number, pan, gateways, old-key, new-key, last-month, this-month, resent, old-first, old-later, new-first, new-later, elided-frame, resent-later, first-brings, later-brings}
+use Rattle.promises.proofs.Worked.{Other, neighbour, building, gateways, old-key, new-key, last-month, this-month, resent, old-first, old-later, new-first, new-later, elided-frame, resent-later, first-brings, later-brings}
 
 abbrev listed_as : ℕ → ℕ → Gateway
 listed_as a p = record { addr = Short a; pan = PanField.Some (record { 0 = p }) }

@@ -4,7 +4,6 @@ use Rattle.octets.specs.Read.{is}
 use Rattle.reassembly.specs.Slots.{node_of, source_of, is_gate}
 use Rattle.reassembly.specs.Cover.{In}
 use Rattle.reassembly.specs.Fresh.{Gateways}
-use Rattle.reassembly.specs.Parts as Parts
 use Rattle.reassembly.specs.Parts.{Part, part_of, told, output_after}
 use Rattle.reassembly.specs.Table as Table
 use Rattle.reassembly.specs.Table.{Call, from, State, Result}

@@ -2,9 +2,8 @@
 use Prim.Native.Nat.{ℕ, ◌-◌, ◌≤◌, ◌<◌}
 use native.Mathlib.Omega.{arith}
 use mathlib.Core.Path.{◌≡◌, refl, ◌∙◌}
-use mathlib.Core.Bool.{true, false, ◌&&◌}
+use mathlib.Core.Bool.{true}
 use lib.ListN.{length, get_or}
-use lib.Dec.{leb}
 use borrow.Author.Tests.{le-ltb, le-leb}
 use Rattle.reassembly.specs.Slots.{busy, free_slot, expired, expire1}
 use Rattle.reassembly.specs.Parts.{Part}

@@ -9,7 +9,7 @@ use mathlib.Core.List.{List, [], ◌∷◌, ◌++◌, map}
 use lib.ListN.{length, get_or, set, take, replicate, length-map}
 use lib.Seq.{take_at, length-take-le}
 use lib.Dec.{ltb, leb}
-use borrow.Author.Tests.{lt-ltb, le-ltb, lt-leb, ltb-false, leb-false}
+use borrow.Author.Tests.{lt-ltb, le-ltb, ltb-false, leb-false}
 use Rattle.octets.specs.Read.{Answer, refused}
 use Rattle.octets.specs.Refusal.{number_of}
 use Rattle.octets.specs.declared.refusal.Refusal.{Refusal}
@@ -21,7 +21,7 @@ use Rattle.reassembly.specs.declared.slot.Source.{Source}
 use Rattle.reassembly.specs.declared.table.Table.{Table}
 use Rattle.reassembly.specs.declared.table.Listed.{Listed}
 use Rattle.reassembly.specs.declared.table.Gateway.{Gateway}
-use Rattle.reassembly.proofs.Tests.{by-test, by_order, not-true-false, no_both, or_cases}
+use Rattle.reassembly.proofs.Tests.{by-test, by_order, not-true-false, no_both}
 use Rattle.reassembly.proofs.Lists.{count_at, first_at-found, first_at-holds}
 use Rattle.reassembly.proofs.Slots.{same_source-eq}
 

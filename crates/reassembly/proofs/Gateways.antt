@@ -1,6 +1,6 @@
 -- What holds of the slots of every table that comes from calls: no key is open twice, no gateway holds over three slots, and what the
 -- gateways hold, with one for each that holds none, is at most eight. Ageing, a part and the opening rule keep it.
-use Prim.Native.Nat.{ℕ, zero, suc, ◌+◌, ◌*◌, ◌-◌, ◌≤◌, ◌<◌, max}
+use Prim.Native.Nat.{ℕ, zero, suc, ◌+◌, ◌-◌, ◌≤◌, ◌<◌, max}
 use native.Mathlib.Nat.{not-suc-le-zero, le_of_suc-le-suc}
 use native.Mathlib.Omega.{arith}
 use mathlib.Core.Path.{◌≡◌, refl, sym, ap, ◌∙◌}
@@ -10,7 +10,6 @@ use mathlib.Core.List.{List, [], ◌∷◌}
 use lib.ListN.{length, get_or, set, length-set}
 use lib.Dec.{leb, ltb, eqb}
 use borrow.Author.Tests.{ltb-true, leb-true, eqb-true, eqb-false, le-leb, eq-eqb, ne_eqb, not-true}
-use Rattle.octets.specs.Read.{choose}
 use Rattle.reassembly.specs.Lists.{bit, count}
 use Rattle.reassembly.specs.Slots.{same_source, same_key, owner, busy, free_slot, opened, is_free, is_key, is_of, expired, expire1, expire, is_gate, held, free, idle_others, may_open}
 use Rattle.reassembly.specs.declared.slot.Source.{Source}

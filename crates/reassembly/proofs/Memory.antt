@@ -6,7 +6,6 @@ use mathlib.Core.Logic.{◌≢◌}
 use mathlib.Core.List.{List, ◌++◌}
 use lib.ListN.{length, get_or, take, drop, length-drop}
 use lib.Seq.{ext_get_or, get_or-take, get_or-drop, length-take-le}
-use Rattle.octets.specs.Write.{put}
 use Rattle.expand.proofs.CopyLaws.{put-inside, length-put}
 use borrow.Rule.Slice.PartMut.{put_mid, mid_of, Post-is}
 use Rattle.reassembly.specs.Parts.{Put, Does}

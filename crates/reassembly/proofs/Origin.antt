@@ -10,7 +10,7 @@ use lib.ListN.{length, get_or, set, take, replicate, length-replicate}
 use lib.Seq.{get_or-set_same, get_or-set_other, get_or-take, length-take-le}
 use Rattle.reassembly.specs.Lists.{count}
 use Rattle.reassembly.specs.Slots.{same_key, free_slot, opened, is_key, expired, expire1, expire}
-use Rattle.reassembly.specs.Parts.{Part, Reply, kept, out, refused, fits, repeats, touches, taken_in, taken, written, full, finish, handed, Put, place, offer}
+use Rattle.reassembly.specs.Parts.{Part, Reply, kept, out, refused, fits, repeats, touches, taken_in, taken, written, full, handed, Put, place, offer}
 use Rattle.reassembly.specs.Table.{Call, short, other, from, part, State, Result, chunk, splice, with_slots, untouched, slots_at, pass, land, offer_at, open_at, step, next, run, note, taken_since}
 use Rattle.reassembly.specs.Fresh.{fresh, begun}
 use Rattle.reassembly.specs.declared.slot.Source.{Source}

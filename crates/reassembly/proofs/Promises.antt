@@ -4,16 +4,16 @@ use Prim.Native.Nat.{ℕ, ◌+◌, ◌*◌, ◌-◌, ◌≤◌, ◌<◌}
 use native.Mathlib.Omega.{arith}
 use mathlib.Core.Path.{◌≡◌, refl, sym, ap, ap₂, ◌∙◌}
 use mathlib.Core.Logic.{◌⊎◌}
-use mathlib.Core.Bool.{Bool, true, false}
+use mathlib.Core.Bool.{true, false}
 use mathlib.Core.List.{List, [], ◌∷◌, ◌++◌}
 use lib.ListN.{length, get_or}
 use Rattle.octets.specs.Refusal.{number_of}
 use Rattle.octets.proofs.Unique.{number-one}
 use Rattle.reassembly.specs.declared.table.Gateway.{Gateway}
-use Rattle.reassembly.specs.Lists.{count, first_at}
+use Rattle.reassembly.specs.Lists.{count}
 use Rattle.reassembly.specs.Slots.{opened, is_free, expired, gates_of, is_gate, held, free, may_open, opening}
-use Rattle.reassembly.specs.Parts.{Part, Reply, kept, out, refused, told, of_outcome, Put}
-use Rattle.reassembly.specs.Table.{Call, part, State, Result, slots_at, step, run, opens_in, ends_in, taken_since, Lands, Received, Gives}
+use Rattle.reassembly.specs.Parts.{Part, out, of_outcome, Put}
+use Rattle.reassembly.specs.Table.{Call, part, Result, slots_at, step, run, opens_in, ends_in, taken_since, Lands, Received, Gives}
 use Rattle.reassembly.specs.Cover.{In, Has, MadeOf}
 use Rattle.reassembly.specs.Fresh.{Sits, Begins, of_listed, Gateways, begun}
 use Rattle.reassembly.specs.declared.slot.Source.{Source}
@@ -24,7 +24,7 @@ use Rattle.reassembly.specs.declared.part.InSlot.{InSlot}
 use Rattle.reassembly.specs.declared.table.Table.{Table}
 use Rattle.reassembly.specs.declared.table.Listed.{Listed}
 use Rattle.reassembly.proofs.Lists.{first_at-found}
-use Rattle.reassembly.proofs.Gateways.{idle, free-for-idle, may_open-none, may_open-rule, Sound}
+use Rattle.reassembly.proofs.Gateways.{idle, free-for-idle, may_open-none, may_open-rule}
 use Rattle.expand.specs.Sum.{was_elided}
 use Rattle.reassembly.proofs.Parts.{finish-byte}
 use Rattle.reassembly.proofs.Origin.{did_made, run-told, fresh-told, taken-snoc}

@@ -1,28 +1,27 @@
 -- What one call can do, case by case, and what every run of calls keeps. Only this file looks into `step`.
-use Prim.Native.Nat.{ℕ, zero, suc, ◌+◌, ◌*◌, ◌-◌, ◌≤◌, ◌<◌}
+use Prim.Native.Nat.{ℕ, zero, suc, ◌+◌, ◌-◌, ◌≤◌, ◌<◌}
 use native.Mathlib.Omega.{arith}
 use mathlib.Core.Path.{◌≡◌, refl, sym, ap, ◌∙◌}
 use mathlib.Core.Logic.{◌≢◌, ◌⊎◌, inl, inr}
-use mathlib.Core.Bool.{Bool, true, false, not, ◌&&◌}
+use mathlib.Core.Bool.{Bool, true, false, ◌&&◌}
 use mathlib.Core.List.{List, [], ◌∷◌, ◌++◌, append-nil}
-use lib.ListN.{length, get_or, set, take, drop, replicate, length-set, length-replicate, length-append}
+use lib.ListN.{length, get_or, set, replicate, length-replicate}
 use lib.Seq.{get_or-set_same, get_or-set_other}
 use lib.Dec.{ltb}
-use borrow.Author.Tests.{ltb-true, ltb-false, lt-ltb, le-ltb, le-leb, leb-true}
-use Rattle.octets.specs.Read.{choose}
+use borrow.Author.Tests.{ltb-true, ltb-false, lt-ltb, le-ltb}
 use Rattle.reassembly.specs.Lists.{bit, count, first_at, those}
-use Rattle.reassembly.specs.Slots.{no_node, addressed, no_source, same_source, present, same_key, owner, busy, free_slot, opened, is_free, is_key, is_of, expired, gates_of, is_gate, held, free, may_open}
-use Rattle.reassembly.specs.Parts.{Part, Reply, kept, out, refused, fits, repeats, touches, taken_in, taken, written, full, Put, place, offer}
-use Rattle.reassembly.specs.Table.{Call, short, other, from, part, State, Result, chunk, splice, with_slots, untouched, slots_at, aged, pass, land, where_key, where_free, offer_at, open_at, from_gate, take_part, timely, step, At, comes, Ready, after, next, run, opens_in, ends_in}
+use Rattle.reassembly.specs.Slots.{no_node, addressed, no_source, present, same_key, owner, busy, free_slot, opened, is_free, is_key, is_of, gates_of, is_gate, held, free, may_open}
+use Rattle.reassembly.specs.Parts.{Part, Reply, refused, fits, repeats, touches, taken_in, taken, full, Put, place, offer}
+use Rattle.reassembly.specs.Table.{Call, short, other, from, part, State, Result, chunk, with_slots, untouched, slots_at, aged, pass, land, where_key, where_free, offer_at, open_at, from_gate, take_part, timely, step, At, comes, Ready, after, next, run, opens_in, ends_in}
 use Rattle.reassembly.specs.Fresh.{seats, fresh, Gateways, begun}
 use Rattle.reassembly.specs.declared.slot.Source.{Source}
 use Rattle.reassembly.specs.declared.slot.Key.{Key}
 use Rattle.reassembly.specs.declared.slot.Slot.{Slot}
 use Rattle.reassembly.specs.declared.table.Table.{Table}
 use Rattle.reassembly.proofs.Tests.{no_both, by-test, by_order, not-true-false, and_left, and_right}
-use Rattle.reassembly.proofs.Lists.{count_set, count_at, count-le, count_none, count-replicate, first_at-holds, first_at-found, first_at-none, first_at-only}
-use Rattle.reassembly.proofs.Slots.{same_source-eq, same_source-refl, same_key-eq, same_key-refl}
-use Rattle.reassembly.proofs.Gateways.{is_key-busy, is_key-key, is_key-is_of, length-expire, expire1-young, get_or-expire, count-expire, free_slot-free, free_slot-key, free_slot-of, free_slot-stray, young, busy-not-free, free-expire, stray, load, idle, Sound, free-for-idle, sound-expire, After, freed, stays, sound-land, MayOpen, may_open-rule, may_open-none, sound-open}
+use Rattle.reassembly.proofs.Lists.{count_set, count_at, count-replicate, first_at-holds, first_at-found, first_at-none, first_at-only}
+use Rattle.reassembly.proofs.Slots.{same_key-eq, same_key-refl}
+use Rattle.reassembly.proofs.Gateways.{is_key-busy, is_key-key, is_key-is_of, expire1-young, get_or-expire, count-expire, free_slot-free, free_slot-key, free_slot-of, free_slot-stray, young, busy-not-free, free-expire, stray, load, Sound, sound-expire, After, freed, stays, sound-land, may_open-rule, may_open-none, sound-open}
 use Rattle.reassembly.proofs.Parts.{place-length, offer-length}
 use Rattle.reassembly.proofs.Memory.{length-chunk, length-splice, chunk-same, chunk-other}
 

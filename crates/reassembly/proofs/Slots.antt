@@ -1,13 +1,12 @@
 -- Nodes, sources, keys and the opening rule: equality as a test, and the rule answer by answer.
-use Prim.Native.Nat.{ℕ, ◌+◌, ◌≤◌, ◌<◌}
+use Prim.Native.Nat.{ℕ, ◌≤◌, ◌<◌}
 use native.Mathlib.Omega.{arith}
 use mathlib.Core.Path.{◌≡◌, refl, sym, ap, ap₂, ◌∙◌}
-use mathlib.Core.Bool.{Bool, true, false, not, ◌&&◌, ◌||◌}
+use mathlib.Core.Bool.{Bool, true, false, not, ◌&&◌}
 use mathlib.Core.List.{List}
 use lib.ListN.{length}
 use lib.Dec.{eqb, ltb, leb}
 use borrow.Author.Tests.{eqb-true, eq-eqb, ne_eqb, le-leb, lt-leb, lt-ltb, le-ltb}
-use Rattle.octets.specs.Read.{choose}
 use Rattle.reassembly.specs.Lists.{count, first_at, those}
 use Rattle.reassembly.specs.Slots.{node_of, same_node, source_of, same_source, present, same_key, is_free, gates_of, is_gate, held, free, idle_others, may_open, opening}
 use Rattle.reassembly.specs.declared.slot.Node.{Node}
@@ -17,11 +16,10 @@ use Rattle.reassembly.specs.declared.slot.Slot.{Slot}
 use Rattle.reassembly.specs.declared.table.Table.{Table}
 use Rattle.ieee802154.specs.declared.addr.Address.{Address}
 use Rattle.ieee802154.specs.Addressing.{pan_number}
-use Rattle.ieee802154.specs.declared.addr.Pan.{Pan}
 use Rattle.ieee802154.specs.declared.addr.PanField.{PanField}
 use Rattle.ieee802154.specs.declared.addr.Address.TheVariants.{Absent, Short, Extended}
-use Rattle.reassembly.proofs.Tests.{by-test, by_order, not-true-false, and_left, and_right, and_both}
-use Rattle.reassembly.proofs.Lists.{count-those, first_at-none, first_at-found}
+use Rattle.reassembly.proofs.Tests.{by_order, and_left, and_right}
+use Rattle.reassembly.proofs.Lists.{count-those, first_at-none}
 
 -- ---- equality as a test
 

@@ -1,5 +1,5 @@
 -- A table's beginning: the gateway list, 14 where it is refused, and eight free slots.
-use Rattle.std.specs.Prelude.{ℕ, ◌-◌, ◌≤◌, Bool, true, false, not, ◌||◌, ◌≡◌, List, [], ◌∷◌, ◌++◌, map, length, take, replicate, ltb, leb}
+use Rattle.std.specs.Prelude.{ℕ, ◌-◌, ◌≤◌, Bool, not, ◌||◌, ◌≡◌, List, [], ◌++◌, map, length, take, replicate, ltb, leb}
 use Rattle.octets.specs.Read.{Answer, is, refused, choose}
 use Rattle.octets.specs.Refusal.{number_of}
 use Rattle.reassembly.specs.Lists.{count, those}

@@ -1,5 +1,5 @@
 -- Lists: how many elements pass a test, which is the first, which they are; equal lists.
-use Rattle.std.specs.Prelude.{ℕ, zero, suc, ◌+◌, Bool, true, false, ◌&&◌, List, [], ◌∷◌, eqb}
+use Rattle.std.specs.Prelude.{ℕ, suc, ◌+◌, Bool, true, false, ◌&&◌, List, [], ◌∷◌, eqb}
 use Rattle.octets.specs.Read.{choose}
 
 abbrev pub bit : Bool → ℕ

@@ -1,5 +1,5 @@
 -- A part and one slot: the slot's record and its 2,048 bytes (the scope document, "Expansion and the slot table").
-use Rattle.std.specs.Prelude.{ℕ, suc, ◌+◌, ◌*◌, ◌-◌, ◌/◌, ◌%◌, ◌≤◌, ◌<◌, ◌≡◌, Bool, true, false, not, ◌&&◌, ◌||◌, List, length, get_or, take, drop, eqb, leb}
+use Rattle.std.specs.Prelude.{ℕ, ◌+◌, ◌*◌, ◌-◌, ◌/◌, ◌%◌, ◌≤◌, ◌≡◌, Bool, true, false, not, ◌&&◌, ◌||◌, List, length, get_or, take, drop, eqb, leb}
 use Rattle.octets.specs.Read.{choose}
 use Rattle.octets.specs.Write.{put}
 use Rattle.octets.specs.Refusal.{number_of}

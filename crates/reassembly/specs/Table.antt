@@ -1,11 +1,11 @@
 -- The slot table as a function on values: what one call does to the table, to the lent memory and to the output
 -- (the scope document, "Expansion and the slot table").
-use Rattle.std.specs.Prelude.{ℕ, ◌+◌, ◌*◌, ◌≤◌, ◌≡◌, Bool, true, false, ◌&&◌, ◌||◌, List, [], ◌∷◌, length, get_or, set, take, drop, ltb, eqb}
+use Rattle.std.specs.Prelude.{ℕ, ◌+◌, ◌*◌, ◌≡◌, Bool, true, false, ◌&&◌, ◌||◌, List, [], ◌∷◌, length, get_or, set, take, drop, ltb, eqb}
 use Rattle.octets.specs.Read.{choose}
 use Rattle.octets.specs.Write.{put}
 use Rattle.reassembly.specs.Lists.{count, first_at}
 use Rattle.reassembly.specs.Slots.{same_key, owner, free_slot, opened, is_free, is_key, expired, expire, gates_of, is_gate, may_open}
-use Rattle.reassembly.specs.Parts.{Part, Reply, kept, out, refused, told, of_outcome, output_after, fits, Put, place, offer}
+use Rattle.reassembly.specs.Parts.{Part, Reply, refused, told, of_outcome, output_after, fits, Put, place, offer}
 use Rattle.reassembly.specs.declared.slot.Key.{Key}
 use Rattle.reassembly.specs.declared.slot.Source.{Source}
 use Rattle.reassembly.specs.declared.slot.Slot.{Slot}

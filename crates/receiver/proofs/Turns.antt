@@ -2,33 +2,31 @@
 use Prim.Native.Nat.{ℕ, suc, ◌≤◌, ◌<◌}
 use native.Mathlib.Omega.{arith}
 use native.Mathlib.Nat.{le_of_suc-le-suc}
-use mathlib.Core.Path.{◌≡◌, refl, sym, ap, subst, ◌∙◌}
-use mathlib.Core.Logic.{◌⊎◌, inl, inr, ⊎_elim}
-use mathlib.Core.Bool.{Bool, true, false, true≢false, ◌||◌}
+use mathlib.Core.Path.{◌≡◌, refl, sym, ap, ◌∙◌}
+use mathlib.Core.Bool.{Bool, true, false, ◌||◌}
 use mathlib.Core.List.{List}
 use lib.ListN.{length, get_or, set}
 use lib.Seq.{set-get_or}
-use lib.Dec.{eqb, ltb, leb}
-use borrow.Author.Tests.{ltb-true, ltb-false, le-ltb, leb-true, leb-false, eqb-true, eqb-false, eq-eqb, ne_eqb}
+use lib.Dec.{eqb, ltb}
+use borrow.Author.Tests.{ltb-true, ltb-false, eqb-true, eqb-false, eq-eqb, ne_eqb}
 use Rattle.octets.specs.Read.{Answer, is, choose}
 use Rattle.octets.specs.Read as Read
 use Rattle.octets.proofs.Spans.{not-refused}
-use Rattle.reassembly.specs.Lists.{count, those}
+use Rattle.reassembly.specs.Lists.{those}
 use Rattle.octets.specs.declared.refusal.Refusal.{Refusal}
 use Rattle.incoming.specs.Incoming.{of_arrival}
 use Rattle.incoming.specs.declared.arrival.ArrivalAnswer.{ArrivalAnswer}
 use Rattle.reassembly.specs.Slots.{owner, present, is_key, free_slot, expire, gates_of, is_gate}
 use Rattle.reassembly.specs.Parts.{Part, Reply, refused, told, of_outcome, output_after, fits, Put}
-use Rattle.reassembly.specs.Table.{State, Result, other, part, splice, with_slots, stays, take_at, step, lent_call, Lands, Gives, Aged}
+use Rattle.reassembly.specs.Table.{State, Result, other, part, splice, with_slots, stays, take_at, step, lent_call, Lands, Gives}
 use Rattle.words.specs.Words.{with_slot}
 use Rattle.reassembly.specs.declared.part.Outcome.{Outcome}
 use Rattle.reassembly.specs.declared.part.InSlot.{InSlot}
 use Rattle.reassembly.specs.declared.slot.Slot.{Slot}
-use Rattle.reassembly.specs.declared.slot.Source.{Source}
 use Rattle.reassembly.specs.declared.table.Table.{Table}
 use Rattle.reassembly.proofs.Tests.{by-test, by_order, not-true-false}
 use Rattle.reassembly.proofs.Lists.{first_at-holds, first_at-found, first_at-most, count_at}
-use Rattle.reassembly.proofs.Answers.{enough-output, aged-is, aged-whole, aged-young, gates-of, gates-same, Leaves, leaves-7, leaves-8, leaves-other, from-gate, lent_same, leaves-10, leaves-offer, leaves-open, leaves-12}
+use Rattle.reassembly.proofs.Answers.{enough-output, aged-is, aged-whole, gates-of, gates-same, Leaves, leaves-7, leaves-8, leaves-other, from-gate, lent_same, leaves-10, leaves-offer, leaves-open, leaves-12}
 use Rattle.reassembly.proofs.AtSlot.{take_own, take-other, take-bad, take_none}
 use Rattle.reassembly.proofs.Unwritten.{splice-back}
 use Rattle.receiver.specs.Receive.{frame_call}

@@ -9,7 +9,7 @@ use Rattle.incoming.specs.Incoming.{arrival}
 use Rattle.incoming.specs.declared.arrival.Arrival.{Arrival}
 use Rattle.reassembly.specs.Slots.{node_of, addressed, owner, is_key, gates_of, is_gate, opening}
 use Rattle.reassembly.specs.Parts.{Part, Reply, told, of_outcome, output_after}
-use Rattle.reassembly.specs.Table.{State, Result, from, part, step, Aged, Gives}
+use Rattle.reassembly.specs.Table.{Result, from, part, step, Aged, Gives}
 use Rattle.reassembly.specs.declared.part.Outcome.{Outcome}
 use Rattle.reassembly.specs.declared.slot.Source.{Source}
 use Rattle.reassembly.specs.declared.table.Table.{Table}

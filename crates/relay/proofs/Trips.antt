@@ -9,7 +9,7 @@ use mathlib.Core.Path.{◌≡◌, refl, sym, ap, ◌∙◌}
 use lib.ListN.{length, get_or, drop, length-append}
 use lib.Dec.{eqb}
 use borrow.Author.Tests.{leb-false, le-leb, eqb-true, eq-eqb, ne_eqb}
-use Rattle.octets.specs.Read.{Reader, Read, is, refused, got, choose, branch, give, byte, be16, be64, ◌>>=◌}
+use Rattle.octets.specs.Read.{Reader, Read, refused, got, choose, branch, give, byte, be16, be64, ◌>>=◌}
 use Rattle.octets.specs.Write.{byte_bytes, be16_bytes, be64_bytes}
 use Rattle.octets.specs.declared.field.ByteField.{ByteField}
 use Rattle.octets.proofs.RoundTrip.{Reads, reads_then, reads-map, reads_both, reads-give, reads-if-not, reads_first, reads_byte, reads-be16, reads-be64}

@@ -6,7 +6,6 @@ use Rattle.octets.specs.Write.{wrote, over}
 use Rattle.octets.specs.declared.field.ByteField.{ByteField}
 use Rattle.relay.specs.Mesh.{mesh, is_mesh, mesh_length, mesh_bytes, has_both}
 use Rattle.relay.specs.Broadcast.{broadcast, is_broadcast, broadcast_length, broadcast_bytes}
-use Rattle.relay.specs.declared.mesh.Mesh.{Mesh}
 use Rattle.relay.specs.declared.mesh.MeshField.{MeshField}
 use Rattle.relay.specs.declared.headers.MeshFieldRead.{MeshFieldRead}
 use Rattle.relay.specs.declared.headers.SequenceRead.{SequenceRead}

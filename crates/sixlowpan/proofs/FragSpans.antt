@@ -4,11 +4,11 @@ use mathlib.Core.List.{List}
 use mathlib.Core.Path.{◌≡◌}
 use lib.Dec.{eqb}
 use lib.ListN.{length}
-use Rattle.octets.specs.Read.{got, choose, branch, give, refuse, byte, be16, ◌>>=◌}
+use Rattle.octets.specs.Read.{got, give, byte, be16, ◌>>=◌}
 use Rattle.octets.proofs.Spans.{Spans, First, spans-first, spans-then, spans-branch, spans-guard, spans-map, spans-give, spans-byte, spans-be16, starts-then, starts-be16}
 use Rattle.sixlowpan.specs.Frag.{frag, frag_rest, frag_width}
 use Rattle.sixlowpan.specs.declared.frag.Repr.{Repr}
-use Rattle.sixlowpan.specs.declared.frag.Repr.TheVariants.{FirstFragment, Fragment}
+use Rattle.sixlowpan.specs.declared.frag.Repr.TheVariants.{Fragment}
 
 spans-rest : (word tag : ℕ) → Spans (frag_rest word tag) (frag_width word)
 unfolding frag_rest

@@ -4,9 +4,7 @@ use Prim.Native.Nat.{ℕ, ◌+◌, ◌*◌, ◌/◌, ◌%◌, ◌≤◌}
 use native.Mathlib.Omega.{arith}
 use mathlib.Core.List.{List, [], ◌++◌}
 use mathlib.Core.Path.{◌≡◌}
-use lib.Dec.{eqb}
 use lib.ListN.{length}
-use borrow.Author.Tests.{eq-eqb}
 use Rattle.octets.specs.Read.{Reader, got, byte, be16, ◌>>=◌}
 use Rattle.octets.specs.Write.{over, byte_bytes, be16_bytes}
 use Rattle.octets.proofs.RoundTrip.{Reads, reads_then, reads-last, reads-map, reads-give, reads_byte, reads-be16, emit-then-read}

@@ -5,7 +5,7 @@ use mathlib.Core.Bool.{Bool}
 use mathlib.Core.Path.{◌≡◌}
 use lib.Dec.{eqb}
 use lib.ListN.{length}
-use Rattle.octets.specs.Read.{Reader, got, branch, byte, be16, refuse, give, ◌>>=◌}
+use Rattle.octets.specs.Read.{got, branch, byte, be16, refuse, give}
 use Rattle.octets.specs.declared.field.WordField.{WordField}
 use Rattle.octets.proofs.Spans.{Spans, First, spans-first, spans-map, spans-both, spans-guard, spans-branch, spans-give, spans-byte, spans-be16}
 use Rattle.sixlowpan.specs.Next.{next_header, next_width}

@@ -3,12 +3,11 @@
 use Prim.Native.Nat.{ℕ, ◌+◌, ◌*◌, ◌/◌, ◌%◌, ◌≤◌, ◌<◌}
 use native.Mathlib.Omega.{arith}
 use mathlib.Core.List.{List, ◌++◌}
-use mathlib.Core.Bool.{Bool, true, false, ◌&&◌, false≢true}
+use mathlib.Core.Bool.{Bool, true, false, false≢true}
 use mathlib.Core.Path.{◌≡◌, refl, ap, subst, ◌∙◌}
-use lib.Dec.{eqb}
 use lib.ListN.{length}
 use borrow.Author.Tests.{eqb-true}
-use Rattle.octets.specs.Read.{Reader, got, choose, byte, be16, give, ◌>>=◌}
+use Rattle.octets.specs.Read.{got, choose, byte, be16, give, ◌>>=◌}
 use Rattle.octets.specs.Write.{over, byte_bytes, be16_bytes}
 use Rattle.octets.specs.declared.field.WordField.{WordField}
 use Rattle.octets.proofs.RoundTrip.{Reads, reads_first, reads_both, reads-map, reads-give, emit-then-read, reads_byte, reads-be16}

@@ -1,5 +1,5 @@
 -- Fragment headers (RFC 4944, 5.3).
-use Rattle.std.specs.Prelude.{ℕ, ◌+◌, ◌*◌, ◌/◌, ◌%◌, List, [], ◌∷◌, ◌++◌, Bool, true, false, eqb}
+use Rattle.std.specs.Prelude.{ℕ, ◌+◌, ◌*◌, ◌/◌, ◌%◌, List, ◌++◌, Bool, true, false, eqb}
 use Rattle.octets.specs.Read.{Read, Reader, got, refused, choose, branch, give, refuse, byte, be16, ◌>>=◌}
 use Rattle.octets.specs.Refusal.{number_of}
 use Rattle.octets.specs.Write.{byte_bytes, be16_bytes}

@@ -1,5 +1,4 @@
 -- The key of a part's datagram: both link-layer addresses, the size and the tag; 6 where the frame has no addressing.
-use Rattle.std.specs.Prelude.{ℕ}
 use Rattle.octets.specs.Read.{Answer, is, refused}
 use Rattle.octets.specs.Refusal.{number_of}
 use Rattle.sixlowpan.specs.Frag.{size_of, tag_of}

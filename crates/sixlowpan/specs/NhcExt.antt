@@ -1,5 +1,5 @@
 -- Compressed IPv6 extension headers (RFC 6282, 4.2).
-use Rattle.std.specs.Prelude.{ℕ, ◌+◌, ◌*◌, ◌/◌, ◌%◌, List, [], ◌++◌, eqb}
+use Rattle.std.specs.Prelude.{ℕ, ◌+◌, ◌*◌, ◌/◌, ◌%◌, List, ◌++◌, eqb}
 use Rattle.octets.specs.Read.{Read, Reader, got, refused, choose, branch, give, refuse, byte, ◌>>=◌}
 use Rattle.octets.specs.Refusal.{number_of}
 use Rattle.octets.specs.Write.{byte_bytes}

@@ -1,5 +1,5 @@
 -- What a printer leaves, from the runs that it puts.
-use Rattle.std.proofs.Common.{◌≡◌, ℕ, zero, suc, ◌+◌, ◌-◌, ◌*◌, ◌/◌, ◌%◌, ◌<◌, ◌≤◌, List, [], ◌∷◌, ◌++◌, length, get_or, drop, set, sym, refl, ap, ◌∙◌, not-suc-le-zero, add_assoc, add-one, sub-one, arith, length-append, drop_of_length-le, drop-cons, le-leb}
+use Rattle.std.proofs.Common.{◌≡◌, ℕ, zero, suc, ◌+◌, ◌-◌, ◌*◌, ◌/◌, ◌%◌, ◌<◌, ◌≤◌, List, [], ◌∷◌, length, get_or, drop, set, sym, refl, ap, ◌∙◌, not-suc-le-zero, add_assoc, add-one, sub-one, arith, length-append, drop_of_length-le, drop-cons, le-leb}
 use lib.Seq.{set_comm}
 use borrow.Author.Tests.{lt-leb}
 use Rattle.octets.specs.Write.{put}

@@ -4,8 +4,11 @@
 // What a block comes to is the library's (`pcap::going::one_block`); here blocks are read, up to 128 at a time, and
 // what they come to is written. A block comes to at most 429 bytes, so that the room holds what one read brings.
 #![tactic(auto)]
+
+use ends::Ends;
 use octets::write::Written;
 use pcap::going::{ToPcap, file_header, one_block};
+use std::io::{Read, Stderr, Write};
 use text::field::{part, upto};
 use text::{line, print};
 
@@ -40,18 +43,18 @@ fn stopped(due: ToPcap) -> Kept {
 }
 
 // The line `no R at block B` on standard error.
-fn refuse(number: u8, block: u64) {
+fn refuse(errors: Stderr, number: u8, block: u64) {
     let mut line = [0u8; 64];
     let a = print::text(&mut line, 0, b"no ");
     let b = print::decimal(&mut line, a, number as u64);
     let c = print::text(&mut line, b, b" at block ");
     let d = print::decimal(&mut line, c, block);
     let e = print::text(&mut line, d, b"\n");
-    io::write_all(2, upto(&line, e));
+    ends::say(errors, upto(&line, e));
 }
 
 // One block behind what was put before.
-fn step(m: Moved, block: &[u8], out: &mut [u8]) -> Moved {
+fn step(m: Moved, block: &[u8], out: &mut [u8], errors: Stderr) -> Moved {
     let at = m.next;
     let due = m.due;
     if out.len() < at {
@@ -80,7 +83,7 @@ fn step(m: Moved, block: &[u8], out: &mut [u8]) -> Moved {
             }
         }
         Written::Refused(e) => {
-            refuse(e.number(), after.block);
+            refuse(errors, e.number(), after.block);
             Moved {
                 due: after,
                 next: at,
@@ -91,7 +94,7 @@ fn step(m: Moved, block: &[u8], out: &mut [u8]) -> Moved {
 }
 
 // The whole blocks of the input.
-fn move_all(due: ToPcap, input: &[u8], out: &mut [u8]) -> Moved {
+fn move_all(due: ToPcap, input: &[u8], out: &mut [u8], errors: Stderr) -> Moved {
     let mut m = Moved {
         due,
         next: 0,
@@ -99,7 +102,7 @@ fn move_all(due: ToPcap, input: &[u8], out: &mut [u8]) -> Moved {
     };
     let mut at: usize = 0;
     while BLOCK <= input.len() - at {
-        m = step(m, part(input, at, BLOCK), out);
+        m = step(m, part(input, at, BLOCK), out, errors);
         if !m.more {
             return m;
         }
@@ -109,16 +112,18 @@ fn move_all(due: ToPcap, input: &[u8], out: &mut [u8]) -> Moved {
 }
 
 // Writes what was put.
-fn sent(fd: i32, out: &[u8], n: usize) -> bool {
-    let done = io::write_all(fd, upto(out, n));
-    if !done {
-        os::fail(b"write");
+fn sent(e: &mut Ends, out: &[u8], n: usize) -> bool {
+    match e.output.write_all(upto(out, n)) {
+        Ok(()) => true,
+        Err(error) => {
+            ends::fail(e.errors, b"write", &error);
+            false
+        }
     }
-    done
 }
 
 // The input has ended: what is left of it is less than a block, and must be nothing.
-fn last(due: ToPcap, rest: usize) -> Kept {
+fn last(due: ToPcap, rest: usize, errors: Stderr) -> Kept {
     if rest == 0 {
         return Kept {
             due,
@@ -127,16 +132,16 @@ fn last(due: ToPcap, rest: usize) -> Kept {
             whole: true,
         };
     }
-    refuse(15, due.block);
+    refuse(errors, 15, due.block);
     stopped(due)
 }
 
 // Writes what the whole blocks came to, and moves what is left behind them to the start.
-fn pass_on(m: Moved, fd: i32, input: &mut [u8], all: usize, out: &[u8]) -> Kept {
+fn pass_on(m: Moved, e: &mut Ends, input: &mut [u8], all: usize, out: &[u8]) -> Kept {
     let due = m.due;
     let rest = all % BLOCK;
     let whole = all - rest;
-    let written = sent(fd, out, m.next);
+    let written = sent(e, out, m.next);
     if !m.more {
         return stopped(due);
     }
@@ -156,30 +161,31 @@ fn pass_on(m: Moved, fd: i32, input: &mut [u8], all: usize, out: &[u8]) -> Kept 
 }
 
 // Reads once, and moves the blocks that are whole.
-fn turn(k: Kept, from: i32, to: i32, input: &mut [u8], out: &mut [u8]) -> Kept {
+fn turn(k: Kept, e: &mut Ends, input: &mut [u8], out: &mut [u8]) -> Kept {
     let have = k.have;
     let due = k.due;
     if input.len() <= have {
         return stopped(due);
     }
-    let got = libc::read(from, &mut input[have..]);
-    if got < 0 {
-        os::fail(b"read");
-        return stopped(due);
+    let n = match e.input.read(&mut input[have..]) {
+        Ok(n) => n,
+        Err(error) => {
+            ends::fail(e.errors, b"read", &error);
+            return stopped(due);
+        }
+    };
+    if n == 0 {
+        return last(due, have, e.errors);
     }
-    if got == 0 {
-        return last(due, have);
-    }
-    let n = io::count(got, input);
     if input.len() - have < n {
         return stopped(due);
     }
-    let m = move_all(due, upto(input, have + n), out);
-    pass_on(m, to, input, have + n, out)
+    let m = move_all(due, upto(input, have + n), out, e.errors);
+    pass_on(m, e, input, have + n, out)
 }
 
 // Nothing says that the input ends, so the turns are counted down from a number that no run uses up.
-fn run(from: i32, to: i32, input: &mut [u8], out: &mut [u8]) -> bool {
+fn run(e: &mut Ends, input: &mut [u8], out: &mut [u8]) -> bool {
     let mut k = Kept {
         due: ToPcap { block: 0 },
         have: 0,
@@ -188,7 +194,7 @@ fn run(from: i32, to: i32, input: &mut [u8], out: &mut [u8]) -> bool {
     };
     let mut turns = u64::MAX;
     while 0 < turns {
-        k = turn(k, from, to, input, out);
+        k = turn(k, e, input, out);
         if !k.more {
             return k.whole;
         }
@@ -198,13 +204,13 @@ fn run(from: i32, to: i32, input: &mut [u8], out: &mut [u8]) -> bool {
 }
 
 // The file header, and then the blocks.
-fn begin(from: i32, to: i32) -> bool {
-    let mut input = io::large_buffer();
-    let mut out = io::large_buffer();
+fn begin(e: &mut Ends) -> bool {
+    let mut input = [0u8; 65536];
+    let mut out = [0u8; 65536];
     match file_header(&mut out) {
         Written::Bytes(n) => {
-            if sent(to, &out, n) {
-                return run(from, to, &mut input, &mut out);
+            if sent(e, &out, n) {
+                return run(e, &mut input, &mut out);
             }
             false
         }
@@ -212,11 +218,11 @@ fn begin(from: i32, to: i32) -> bool {
     }
 }
 
-fn main() {
-    let mut name = io::buffer();
-    let e = ends::open(b"usage: to_pcap [CAPTURE PCAP]\n", &mut name);
+fn main(rt: HostRuntime) {
+    let mut name = [0u8; 4096];
+    let mut e = ends::open(&rt, b"usage: to_pcap [CAPTURE PCAP]\n", &mut name);
     if e.ready {
-        let whole = begin(e.input, e.output);
-        ends::close(e, whole, &name);
+        let whole = begin(&mut e);
+        ends::close(&rt, e, whole, &name);
     }
 }

@@ -1,7 +1,6 @@
 use native.Mathlib.Omega.{arith}
 use mathlib.Core.Path.{◌≡◌}
 use lib.ListN.{length}
-use Rattle.reassembly.proofs.Lists.{unmapped}
 use Rattle.contexts.proofs.Laws.{bytes-of}
 use Rattle.contexts.proofs.receive_flat.Goals as goal
 

@@ -1,5 +1,5 @@
 use native.Mathlib.Nat.{sub-zero, min-le_right}
-use lib.ListN.{take, length-take}
+use lib.ListN.{length-take}
 use Prim.Native.Nat.{ℕ, ◌-◌, ◌≤◌}
 use native.Mathlib.Omega.{arith}
 use mathlib.Core.Path.{refl}

@@ -1,5 +1,4 @@
 use mathlib.Core.Path.{refl, ◌∙◌}
-use Prim.Native.Nat.{◌-◌}
 use native.Mathlib.Omega.{arith}
 use Rattle.capture.proofs.BlockSteps.{zero_turn, zero-not, zero-end}
 use Rattle.capture.proofs.block.zero_in.Goals as goal

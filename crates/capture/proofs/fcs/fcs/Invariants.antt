@@ -1,11 +1,7 @@
 use mathlib.Core.Path.{◌≡◌}
-use mathlib.Core.Bool.{Bool}
-use mathlib.Core.List.{List}
-use Prim.Native.Nat.{ℕ, ◌≤◌, ◌-◌}
-use lib.Dec.{T, eqb, eqb→eq}
-use lib.ListN.{length, drop, get_or}
-use Rattle.capture.specs.Fcs.{byte_in, fcs_from, IsTable}
-use Rattle.capture.proofs.Entries.{every, at}
+use Prim.Native.Nat.{◌≤◌, ◌-◌}
+use lib.ListN.{length, drop}
+use Rattle.capture.specs.Fcs.{fcs_from}
 use Rattle.capture.proofs.fcs.fcs.Given as goal
 
 abbrev pub invariant-loop-i : goal.invariant-loop-i

@@ -1,5 +1,4 @@
 -- What is counted so far, with what remains, is the whole.
-use Prim.Native.Nat.{◌+◌, ◌-◌, ◌≤◌, ◌<◌}
 use native.Mathlib.Omega.{arith}
 use Rattle.cutting.proofs.PieceLaws.{count-start, count-more, count-end}
 use Rattle.cutting.proofs.piece.count_later.Goals as goal

@@ -1,5 +1,4 @@
 -- Each extension header that is put brings the walk on; where another thing stands it has reached that.
-use Prim.Native.Nat.{ℕ, ◌+◌, ◌-◌, ◌*◌, ◌≤◌}
 use native.Mathlib.Omega.{arith}
 use mathlib.Core.Path.{refl, sym, ◌∙◌}
 use Rattle.expand.proofs.WalkLaws.{onward-same, onward_then, at_rest, at-refused, at-udp, at_inner, at-ext, ext-facts, inner-facts}

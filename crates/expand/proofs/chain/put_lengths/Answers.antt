@@ -1,5 +1,5 @@
 -- The payload lengths are put from the last place to the first.
-use Prim.Native.Nat.{◌≤◌, ◌-◌}
+use Prim.Native.Nat.{◌-◌}
 use native.Mathlib.Omega.{arith}
 use mathlib.Core.Path.{refl, sym, ◌∙◌}
 use Rattle.expand.proofs.WalkLaws.{patches-back, patches-end}

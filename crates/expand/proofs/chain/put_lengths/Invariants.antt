@@ -1,5 +1,5 @@
 -- The payload lengths are put from the last place to the first.
-use Prim.Native.Nat.{◌≤◌, ◌-◌}
+use Prim.Native.Nat.{◌≤◌}
 use mathlib.Core.Path.{◌≡◌}
 use lib.ListN.{length, take}
 use Rattle.expand.specs.Walk.{patches}

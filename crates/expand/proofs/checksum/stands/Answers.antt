@@ -1,6 +1,4 @@
 use Rattle.expand.proofs.SumLaws.{stood}
-use Rattle.expand.proofs.checksum.stands.Reads as reads
-use Rattle.expand.proofs.checksum.stands.Lts as lts
 use Rattle.expand.proofs.checksum.stands.Goals as goal
 
 pub returns-then-udp-n : goal.returns-then-udp-n

@@ -1,5 +1,5 @@
 -- What is summed so far, with the words that are left, is the whole.
-use mathlib.Core.Path.{◌≡◌, ap}
+use mathlib.Core.Path.{◌≡◌}
 use Prim.Native.Nat.{◌+◌, ◌-◌, ◌*◌, ◌≤◌}
 use lib.ListN.{drop}
 use Rattle.expand.specs.Sum.{sum_words}

@@ -5,7 +5,7 @@ use native.Mathlib.Omega.{arith}
 use lib.ListN.{length, take}
 use Rattle.feed.specs.Reading.{read_on}
 use Rattle.feed.specs.Feed.{answer_of, taken}
-use Rattle.feed.proofs.Lists.{take_min, pool-long, pool-is, unmapped}
+use Rattle.feed.proofs.Lists.{take_min, pool-long, pool-is}
 use Rattle.feed.proofs.reader.take_in.Goals as goal
 
 pub slice_bounds-copy-end : goal.slice_bounds-copy-end

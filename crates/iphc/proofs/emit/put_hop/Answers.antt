@@ -1,6 +1,5 @@
-use mathlib.Core.Path.{sym, ◌∙◌}
-use Rattle.octets.proofs.Puts.{put-nil, put-eq, put-ne}
-use borrow.Author.Rules.{rules}
+use mathlib.Core.Path.{◌∙◌}
+use Rattle.octets.proofs.Puts.{put-nil, put-ne}
 use Rattle.iphc.proofs.emit.put_hop.Goals as goal
 
 pub returns-else-hop_bits-eq0 : goal.returns-else-hop_bits-eq0

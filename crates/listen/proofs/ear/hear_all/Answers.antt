@@ -1,7 +1,7 @@
 use borrow.Author.Tests.{not-true, not-false}
 use Rattle.listen.proofs.Blocks.{onward, block-turn, block-stop, all-heard}
 use Rattle.listen.proofs.Hearing.{listener}
-use Rattle.std.proofs.Common.{true, refl, arith, rules}
+use Rattle.std.proofs.Common.{refl, arith, rules}
 use Rattle.listen.proofs.ear.hear_all.Goals as goal
 
 pub loop-left-init : goal.loop-left-init

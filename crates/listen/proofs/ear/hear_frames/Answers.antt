@@ -1,4 +1,4 @@
-use Rattle.std.proofs.Common.{◌-◌, ◌<◌, refl, ap, arith, rules}
+use Rattle.std.proofs.Common.{◌<◌, refl, ap, arith, rules}
 use Rattle.capture.proofs.BlockSteps.{count_small}
 use Rattle.listen.proofs.Hearing.{going, turn, gone}
 use Rattle.listen.proofs.ear.hear_frames.Goals as goal

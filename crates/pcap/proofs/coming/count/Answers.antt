@@ -1,7 +1,6 @@
 use Rattle.pcap.proofs.Counting.{told-turn, told-full, told-stop, told-on, count-end, count_most}
 use Rattle.capture.specs.Made.{Bytes}
 use mathlib.Core.Path.{refl, ◌∙◌}
-use Prim.Native.Nat.{◌-◌}
 use native.Mathlib.Omega.{arith}
 use Rattle.pcap.proofs.coming.count.Goals as goal
 

@@ -2,7 +2,6 @@ use Rattle.pcap.proofs.Filling.{zeros-start, zeros-step, zeros-done}
 use lib.ListN.{length-set}
 use mathlib.Core.Path.{refl, sym, ◌∙◌}
 use native.Mathlib.Omega.{arith}
-use Prim.Native.Nat.{◌-◌}
 use Rattle.pcap.proofs.fill.put_zeros.Goals as goal
 
 pub loop-i-init : goal.loop-i-init

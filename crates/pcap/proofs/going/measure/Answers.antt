@@ -1,6 +1,5 @@
 use Rattle.pcap.proofs.Carrying.{measure-start, measure-end, told-stop, told-room, told-turn}
 use mathlib.Core.Path.{sym, ◌∙◌}
-use Prim.Native.Nat.{◌-◌}
 use native.Mathlib.Omega.{arith}
 use Rattle.pcap.proofs.going.measure.Goals as goal
 

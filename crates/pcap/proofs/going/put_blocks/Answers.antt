@@ -2,7 +2,6 @@ use Rattle.pcap.proofs.Carrying.{rest_all, rest-room, rest_put, rest_end, length
 use Rattle.octets.specs.Write.{put}
 use mathlib.Core.Path.{refl, sym, ap, ◌∙◌}
 use lib.ListN.{length}
-use Prim.Native.Nat.{◌-◌}
 use native.Mathlib.Omega.{arith}
 use Rattle.pcap.proofs.going.put_blocks.Goals as goal
 

@@ -4,7 +4,6 @@ use lib.ListN.{length-set}
 use mathlib.Core.Path.{refl, sym, ap, ◌∙◌}
 use native.Mathlib.Nat.{add-zero}
 use native.Mathlib.Omega.{arith}
-use Prim.Native.Nat.{◌-◌}
 use Rattle.pcap.proofs.put.put_all.Goals as goal
 
 pub loop-i-init : goal.loop-i-init

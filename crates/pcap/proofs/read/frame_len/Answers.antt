@@ -1,9 +1,5 @@
 use Rattle.octets.proofs.Steps.{steps}
 use Rattle.pcap.specs.Frames.{length_field}
-use Rattle.pcap.proofs.read.frame_len.Reads as reads
-use Rattle.pcap.proofs.read.frame_len.Lts as lts
-use Rattle.octets.proofs.cursor.Cursor.le32.Reads as le32-reads
-use Rattle.pcap.proofs.read.same.Reads as same_Reads
 use Rattle.pcap.proofs.read.frame_len.Goals as goal
 
 -- src/read.rt:140:17

@@ -1,9 +1,5 @@
 use Rattle.octets.proofs.Steps.{steps}
 use Rattle.pcap.specs.Frames.{head}
-use Rattle.pcap.proofs.read.head.Reads as reads
-use Rattle.pcap.proofs.read.head.Lts as lts
-use Rattle.pcap.proofs.read.version.Reads as version-reads
-use Rattle.pcap.proofs.read.wide_is.Reads as wide-is-reads
 use Rattle.pcap.proofs.read.head.Goals as goal
 
 -- src/read.rt:83:1

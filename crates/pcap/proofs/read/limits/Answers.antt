@@ -1,8 +1,5 @@
 use Rattle.octets.proofs.Steps.{steps}
 use Rattle.pcap.specs.Frames.{limits}
-use Rattle.pcap.proofs.read.limits.Reads as reads
-use Rattle.pcap.proofs.read.limits.Lts as lts
-use Rattle.pcap.proofs.read.wide_is.Reads as wide-is-reads
 use Rattle.pcap.proofs.read.limits.Goals as goal
 
 -- src/read.rt:49:1

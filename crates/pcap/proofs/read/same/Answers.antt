@@ -1,8 +1,5 @@
 use Rattle.octets.proofs.Steps.{steps}
 use Rattle.pcap.specs.Frames.{same_field}
-use Rattle.pcap.proofs.read.same.Reads as reads
-use Rattle.pcap.proofs.read.same.Lts as lts
-use Rattle.octets.proofs.cursor.Cursor.le32.Reads as le32-reads
 use Rattle.pcap.proofs.read.same.Goals as goal
 
 -- src/read.rt:126:17

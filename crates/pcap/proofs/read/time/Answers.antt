@@ -1,9 +1,5 @@
 use Rattle.octets.proofs.Steps.{steps}
 use Rattle.pcap.specs.Frames.{time_field}
-use Rattle.pcap.proofs.read.time.Reads as reads
-use Rattle.pcap.proofs.read.time.Lts as lts
-use Rattle.octets.proofs.cursor.Cursor.le32.Reads as le32-reads
-use Rattle.pcap.proofs.read.judge_time.Reads as judge-time-reads
 use Rattle.pcap.proofs.read.time.Goals as goal
 
 -- src/read.rt:108:1

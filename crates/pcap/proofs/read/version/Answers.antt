@@ -1,9 +1,5 @@
 use Rattle.octets.proofs.Steps.{steps}
 use Rattle.pcap.specs.Frames.{version}
-use Rattle.pcap.proofs.read.version.Reads as reads
-use Rattle.pcap.proofs.read.version.Lts as lts
-use Rattle.pcap.proofs.read.word_is.Reads as word-is-reads
-use Rattle.pcap.proofs.read.zone.Reads as zone-reads
 use Rattle.pcap.proofs.read.version.Goals as goal
 
 -- src/read.rt:70:1

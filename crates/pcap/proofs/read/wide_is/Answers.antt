@@ -1,7 +1,4 @@
 use Rattle.octets.proofs.Steps.{steps}
-use Rattle.pcap.proofs.read.wide_is.Reads as reads
-use Rattle.pcap.proofs.read.wide_is.Lts as lts
-use Rattle.octets.proofs.cursor.Cursor.le32.Reads as le32-reads
 use Rattle.pcap.proofs.read.wide_is.Goals as goal
 
 -- src/read.rt:41:17

@@ -1,7 +1,4 @@
 use Rattle.octets.proofs.Steps.{steps}
-use Rattle.pcap.proofs.read.word_is.Reads as reads
-use Rattle.pcap.proofs.read.word_is.Lts as lts
-use Rattle.octets.proofs.cursor.Cursor.le16.Reads as le16-reads
 use Rattle.pcap.proofs.read.word_is.Goals as goal
 
 -- src/read.rt:27:17

@@ -1,9 +1,5 @@
 use Rattle.octets.proofs.Steps.{steps}
 use Rattle.pcap.specs.Frames.{zone}
-use Rattle.pcap.proofs.read.zone.Reads as reads
-use Rattle.pcap.proofs.read.zone.Lts as lts
-use Rattle.pcap.proofs.read.limits.Reads as limits-reads
-use Rattle.pcap.proofs.read.wide_is.Reads as wide-is-reads
 use Rattle.pcap.proofs.read.zone.Goals as goal
 
 -- src/read.rt:58:1

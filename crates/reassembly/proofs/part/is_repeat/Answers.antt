@@ -1,7 +1,6 @@
 use Prim.Native.Nat.{◌+◌, ◌-◌}
 use mathlib.Core.Path.{◌≡◌}
 use native.Mathlib.Omega.{arith}
-use mathlib.Core.Bool.{true, false}
 use lib.ListN.{length}
 use Rattle.reassembly.specs.Parts.{repeats_in, units}
 use Rattle.reassembly.proofs.Tests.{and-told, and-told-not}

@@ -1,4 +1,4 @@
-use Prim.Native.Nat.{◌<◌, ◌-◌}
+use Prim.Native.Nat.{◌<◌}
 use native.Mathlib.Omega.{arith}
 use mathlib.Core.Path.{◌≡◌, sym, ap, ◌∙◌}
 use lib.ListN.{length, take}
@@ -20,8 +20,10 @@ loop-i-preserved c =
     let n : length l ≡ a.size = length-take-le a.size a.seats (omega (arith, b.well_formed.0.1.0.1, b.requires)) in
     let h : b.loop-i.i < length l = omega arith in
     let e = ap (same_source a.g) (get_or-take a.size a.seats b.loop-i.i _ c.loop-i-test.true) ∙ sym c.same.ensures in
-    elim c.if-same.branch [ then-same w ↦ let k = count-hit (same_source a.g) l b.loop-i.i _ h (e ∙ w.if-same.true) in (omega arith, omega arith, omega arith)
-    | else-same w ↦ let k = count-miss (same_source a.g) l b.loop-i.i _ h (e ∙ w.if-same.false) in (omega arith, omega arith, omega arith) ]
+    elim c.if-same.branch [
+      | then-same w ↦ let k = count-hit (same_source a.g) l b.loop-i.i _ h (e ∙ w.if-same.true) in (omega arith, omega arith, omega arith)
+      | else-same w ↦ let k = count-miss (same_source a.g) l b.loop-i.i _ h (e ∙ w.if-same.false) in (omega arith, omega arith, omega arith)
+    ]
 
 pub returns : goal.returns
 returns c =

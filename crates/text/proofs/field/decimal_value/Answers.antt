@@ -1,4 +1,4 @@
-use Rattle.std.proofs.Common.{◌-◌, ◌∙◌, arith}
+use Rattle.std.proofs.Common.{◌∙◌, arith}
 use Rattle.text.proofs.Fields.{decimal_step, decimal-large, decimal-stray, no_number_lem, decimal-done}
 use Rattle.text.proofs.field.decimal_value.Goals as goal
 

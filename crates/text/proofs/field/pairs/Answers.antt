@@ -1,4 +1,4 @@
-use Rattle.std.proofs.Common.{◌-◌, eqb, ltb, refl, ap, ◌∙◌, arith, length-set}
+use Rattle.std.proofs.Common.{eqb, ltb, refl, ap, ◌∙◌, arith, length-set}
 use Rattle.text.specs.Fields.{stray_pairs}
 use Rattle.text.proofs.Fields.{uncounted, all-counted, pair_step, pair-joins, pairs_start, strays-start, pairs-done, strays-done, no_room, no_pairs, are-pairs, pairs-in}
 use Rattle.text.proofs.field.pairs.Goals as goal

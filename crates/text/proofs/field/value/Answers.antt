@@ -1,4 +1,4 @@
-use Rattle.std.proofs.Common.{◌+◌, ◌-◌, eqb, get_or, drop, refl, ap, ◌∙◌, arith}
+use Rattle.std.proofs.Common.{◌+◌, eqb, get_or, drop, refl, ap, ◌∙◌, arith}
 use Rattle.text.specs.Fields.{strays}
 use Rattle.text.proofs.Fields.{nibble-small, uncounted, joins, counted, some_left, hex-step, stray-step, hex-done, stray-done, all_digits, some-stray}
 use Rattle.text.proofs.field.value.Goals as goal

@@ -1,4 +1,4 @@
-use Rattle.std.proofs.Common.{◌≡◌, ◌+◌, ◌-◌, false, get_or, drop, sym, ◌∙◌, arith}
+use Rattle.std.proofs.Common.{◌≡◌, ◌+◌, false, get_or, drop, sym, ◌∙◌, arith}
 use Rattle.text.specs.Bytes.{index_of}
 use Rattle.text.proofs.Lines.{passed, none_left}
 use Rattle.text.proofs.line.holds.Goals as goal

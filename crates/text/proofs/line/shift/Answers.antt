@@ -1,4 +1,4 @@
-use Rattle.std.proofs.Common.{◌≡◌, ◌-◌, get_or, sym, refl, ap, ◌∙◌, arith, length-set}
+use Rattle.std.proofs.Common.{◌≡◌, get_or, sym, refl, ap, ◌∙◌, arith, length-set}
 use Rattle.text.proofs.Lines.{unmoved, move_step, tail_step, move-done}
 use Rattle.text.proofs.line.shift.Goals as goal
 

@@ -1,4 +1,4 @@
-use Rattle.std.proofs.Common.{◌+◌, ◌-◌, sym, refl, ap, ◌∙◌, add-zero, arith, length-set, lt-length-set}
+use Rattle.std.proofs.Common.{◌+◌, sym, refl, ap, ◌∙◌, add-zero, arith, length-set, lt-length-set}
 use Rattle.octets.specs.Write.{put}
 use Rattle.text.specs.Text.{hex_bytes}
 use Rattle.text.proofs.Printing.{printed-all, printed-none, bytes-step, bytes-done, length-hex}

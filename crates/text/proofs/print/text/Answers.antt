@@ -1,4 +1,4 @@
-use Rattle.std.proofs.Common.{◌-◌, refl, ap, ◌∙◌, add-zero, arith, length-set}
+use Rattle.std.proofs.Common.{refl, ap, ◌∙◌, add-zero, arith, length-set}
 use Rattle.octets.specs.Write.{put}
 use Rattle.text.proofs.Printing.{printed-all, printed-none, text-step, text-done}
 use Rattle.text.proofs.print.text.Goals as goal

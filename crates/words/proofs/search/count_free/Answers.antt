@@ -1,4 +1,3 @@
-use Prim.Native.Nat.{◌-◌}
 use native.Mathlib.Omega.{arith}
 use mathlib.Core.Path.{sym, ◌∙◌}
 use Rattle.reassembly.specs.Slots.{free_slot, is_free, free}
@@ -15,8 +14,10 @@ loop-i-init c = (search rules, search rules, omega arith)
 pub loop-i-preserved : goal.loop-i-preserved
 loop-i-preserved c = let l = (table_in c.args.t.now).slots in
     let eight = slots-eight c.args.t.now in
-    elim c.if-is_free.branch [ then-is_free w ↦ let k = one_more is_free l free_slot 8 c.loop-i.i eight c.loop-i.n c.loop-i.invariant.2 c.loop-i-test.true (sym c.is_free.ensures ∙ w.if-is_free.true) in (omega arith, omega arith, omega arith)
-    | else-is_free w ↦ let k = no_more is_free l free_slot 8 c.loop-i.i eight c.loop-i.n c.loop-i.invariant.2 c.loop-i-test.true (sym c.is_free.ensures ∙ w.if-is_free.false) in (omega arith, omega arith, omega arith) ]
+    elim c.if-is_free.branch [
+      | then-is_free w ↦ let k = one_more is_free l free_slot 8 c.loop-i.i eight c.loop-i.n c.loop-i.invariant.2 c.loop-i-test.true (sym c.is_free.ensures ∙ w.if-is_free.true) in (omega arith, omega arith, omega arith)
+      | else-is_free w ↦ let k = no_more is_free l free_slot 8 c.loop-i.i eight c.loop-i.n c.loop-i.invariant.2 c.loop-i-test.true (sym c.is_free.ensures ∙ w.if-is_free.false) in (omega arith, omega arith, omega arith)
+    ]
 
 pub returns : goal.returns
 unfolding free

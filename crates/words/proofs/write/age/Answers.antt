@@ -1,4 +1,3 @@
-use Prim.Native.Nat.{◌-◌}
 use mathlib.Core.Path.{ap, ◌∙◌}
 use Rattle.words.specs.Words.{table_in}
 use Rattle.words.proofs.Ages.{age-none, age-turn, age-end}

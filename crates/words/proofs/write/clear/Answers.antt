@@ -1,4 +1,3 @@
-use Prim.Native.Nat.{◌-◌}
 use native.Mathlib.Omega.{arith}
 use Rattle.words.proofs.Numbers.{table-clear, zero_more}
 use borrow.Author.Rules.{rules}

@@ -1,10 +1,6 @@
 use Rattle.ieee802154.proofs.ReadSteps.{read-steps}
 use Rattle.octets.proofs.Steps.{steps, flags}
 use Rattle.ieee802154.specs.Mac.{after_control}
-use Rattle.ieee802154.proofs.header.Repr.after_control.Reads as reads
-use Rattle.ieee802154.proofs.header.Repr.after_control.Lts as lts
-use Rattle.ieee802154.proofs.header.Repr.read_sequence.Reads as read-sequence-reads
-use Rattle.ieee802154.proofs.header.Repr.rest.Reads as rest-reads
 use Rattle.ieee802154.proofs.header.Repr.after_control.Goals as goal
 
 -- src/header.rt:127:5

@@ -1,11 +1,6 @@
 use Rattle.ieee802154.proofs.ReadSteps.{read-steps}
 use Rattle.octets.proofs.Steps.{steps, flags}
 use Rattle.ieee802154.specs.Mac.{sequence}
-use Rattle.ieee802154.proofs.header.Repr.read_sequence.Reads as reads
-use Rattle.ieee802154.proofs.header.Repr.read_sequence.Lts as lts
-use Rattle.ieee802154.proofs.control.Control.omits_sequence.Reads as omits-sequence-reads
-use Rattle.ieee802154.proofs.header.Repr.sequence.Reads as sequence-reads
-use Rattle.octets.proofs.cursor.Cursor.byte.Reads as byte-Reads
 use Rattle.ieee802154.proofs.header.Repr.read_sequence.Goals as goal
 
 -- src/header.rt:118:13
