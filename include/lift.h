@@ -1,6 +1,6 @@
 /* lift.h: the receiver's side of 6LoWPAN for C and C++. IEEE 802.15.4 frames in, whole IPv6 datagrams out.
  *
- * Link with liblift.a, which `rt staticlib lift` writes to target/staticlib/ after it has proved every function in it. The
+ * Link with liblift.a, which `examples/archive` writes to target/staticlib/ after it has proved every function in it. The
  * library calls memcpy and memset and nothing else: it does not allocate, block, print, keep state of its own, or use threads.
  *
  * What is proved, and what is not. A call that keeps the rules below ends, and reads and writes nothing that was not lent.
