@@ -6,9 +6,9 @@ usage: tools/respell.py [--check]        at the top of the repository, once, rig
 Which names: those that crates/*/specs/*.antt and crates/*/proofs/*.antt declare (definitions, fields, constructors,
 lemmas). In each part between dashes that begins in lower case, a capital becomes a dash below and a small letter; a dash
 stays, since in the kit too it joins the names that a lemma speaks of (`length-drop`).
-Where: the code of .antt files; the clauses and ghost lines of .rt files; code spans of comments and of pages; the words of
-must-fail edits and of tests/wrong-programs.txt. Functions of src/, strings, inputs and outputs keep their names, and so do
-the labels that Rattle makes (behind a dot, or in proofs/F/). Prints the names that would fall together.
+Where: .antt files, but for their `--` comments' dashed words; .rt files outside strings; code spans of pages; must-fail
+edits and tests/wrong-programs.txt. Functions of src/, strings, inputs and outputs keep their names: none of them has a
+capital behind a small letter. Prints the names that would fall together. Once it has run, it finds nothing to turn.
 """
 import glob
 import os

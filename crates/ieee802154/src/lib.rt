@@ -9,8 +9,8 @@
 // `Repr::parse` is specs/Mac.antt's `mac` on every slice of bytes: a header and its length, or the refusal's number.
 // `Repr::emit` writes exactly the bytes that `bytes_of` lists, or refuses, 7, and leaves the room as it was. proofs/
 // shows that a length read is the sum of the fields' widths and within the frame (Lengths), and that exactly the
-// headers that `round_trips` admits read back as they were written (RoundTrips, Exact). No function asks anything of its
-// caller, and each contract fixes the answer and the lent bytes (Unique).
+// headers that `round_trips` admits read back as they were written (RoundTrips, Exact). No function asks anything of
+// its caller, and each contract fixes the answer and the lent bytes (Unique).
 #![tactic(auto)]
 
 pub mod addr;

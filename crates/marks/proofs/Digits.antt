@@ -51,11 +51,11 @@ unfolding bits
 length-bits zero w = refl
 length-bits (suc k) w = ap suc (length-bits k (w / 2))
 
-pub get_d_bits : (k w j : ℕ) → j < k → get_or (bits k w) j false ≡ digit w j
+pub get_or-bits : (k w j : ℕ) → j < k → get_or (bits k w) j false ≡ digit w j
 unfolding bits digit
-get_d_bits zero w j h = absurd (not-suc-le-zero h)
-get_d_bits (suc k) w zero h = refl
-get_d_bits (suc k) w (suc j) h = get_d_bits k (w / 2) j (le_of_suc-le-suc h)
+get_or-bits zero w j h = absurd (not-suc-le-zero h)
+get_or-bits (suc k) w zero h = refl
+get_or-bits (suc k) w (suc j) h = get_or-bits k (w / 2) j (le_of_suc-le-suc h)
 
 pub digit-zero : (j : ℕ) → digit 0 j ≡ false
 unfolding digit

@@ -18,7 +18,7 @@ use denote.Plain.{UInt}
 use denote.Shadow.{shadow}
 use Rattle.octets.specs.Read.{choose}
 use Rattle.marks.specs.Marks.{same, has_in, fill, bits, unpack, one, val, packs, pack, within}
-use Rattle.marks.proofs.Digits.{choose_no, digit, both-no, choose-swap, length-bits, get_d_bits, digit-zero, low_digit, digit_or, digit_and, in_r, in-yes, in-before, in_after, in-of, in-cong, digit_mask, digit_not, no-digits}
+use Rattle.marks.proofs.Digits.{choose_no, digit, both-no, choose-swap, length-bits, get_or-bits, digit-zero, low_digit, digit_or, digit_and, in_r, in-yes, in-before, in_after, in-of, in-cong, digit_mask, digit_not, no-digits}
 
 pub length-fill : (u m : ℕ) (l : List Bool) → length (fill u m l) ≡ length l
 unfolding fill
@@ -93,7 +93,7 @@ unpack-at [] q j hj hq = absurd (not-suc-le-zero hq)
 unpack-at (w ∷ ws) zero j hj hq =
     let n : 0 * 64 + j ≡ j = omega arith in
     let l = length-bits 64 w in
-    ap (λ (x : ℕ). get_or (bits 64 w ++ unpack ws) x false) n ∙ get_or-append (bits 64 w) (unpack ws) false j (omega arith) ∙ get_d_bits 64 w j hj
+    ap (λ (x : ℕ). get_or (bits 64 w ++ unpack ws) x false) n ∙ get_or-append (bits 64 w) (unpack ws) false j (omega arith) ∙ get_or-bits 64 w j hj
 unpack-at (w ∷ ws) (suc q) j hj hq =
     let l = length-bits 64 w in
     let n : suc q * 64 + j ≡ length (bits 64 w) + (q * 64 + j) = omega arith in
@@ -154,7 +154,7 @@ module _ (w lo hi : ℕ) (h : lo ≤ hi) (top : hi ≤ 64) (fits : w < 2 ^ 64) w
       (λ d hd.
       let a : digit (bit_and w (2 ^ hi - 2 ^ lo)) (lo + d) ≡ false = ap (λ (x : ℕ). digit x (lo + d)) e ∙ digit-zero (lo + d) in
       let m : digit (2 ^ hi - 2 ^ lo) (lo + d) ≡ true = digit_mask hi lo (lo + d) h ∙ in-yes lo hi (lo + d) (omega arith) (omega arith) in
-      same_true (get_or (bits 64 w) (lo + d) false) ∙ get_d_bits 64 w (lo + d) (omega arith) ∙ choose-and (digit w (lo + d)) _ (sym (digit_and w (2 ^ hi - 2 ^ lo) (lo + d)) ∙ a) m)
+      same_true (get_or (bits 64 w) (lo + d) false) ∙ get_or-bits 64 w (lo + d) (omega arith) ∙ choose-and (digit w (lo + d)) _ (sym (digit_and w (2 ^ hi - 2 ^ lo) (lo + d)) ∙ a) m)
 
   none-mask : has_in true (bits 64 w) lo (hi - lo) ≡ false → bit_and w (2 ^ hi - 2 ^ lo) ≡ 0
   none-mask e =
@@ -165,7 +165,7 @@ module _ (w lo hi : ℕ) (h : lo ≤ hi) (top : hi ≤ 64) (fits : w < 2 ^ 64) w
       (λ m.
       let r = in-of lo hi j (sym (digit_mask hi lo j h) ∙ m) in
       let n : lo + (j - lo) ≡ j = omega (arith, r.0) in
-      sym (get_d_bits 64 w j hj) ∙ sym (same_true (get_or (bits 64 w) j false)) ∙ ap (λ (x : ℕ). same (get_or (bits 64 w) x false) true) (sym n)
+      sym (get_or-bits 64 w j hj) ∙ sym (same_true (get_or (bits 64 w) j false)) ∙ ap (λ (x : ℕ). same (get_or (bits 64 w) x false) true) (sym n)
       ∙ has-none true (bits 64 w) lo (hi - lo) e (j - lo) (omega (arith, r.0, r.1))))
 
   pub word-true : not (eqb (bit_and w (2 ^ hi - 2 ^ lo)) 0) ≡ has_in true (bits 64 w) lo (hi - lo)
@@ -179,8 +179,8 @@ word-false w lo hi h top fits =
     word-true (2 ^ 64 - 1 - w) lo hi h top (omega arith)
     ∙ sym (has-cong false true (bits 64 w) (bits 64 (2 ^ 64 - 1 - w)) lo (hi - lo)
     (λ i hi'.
-    ap (λ (x : Bool). same x false) (get_d_bits 64 w i (omega arith)) ∙ same-flip (digit w i)
-    ∙ ap (λ (x : Bool). same x true) (sym (digit_not 64 w i fits (omega arith)) ∙ sym (get_d_bits 64 (2 ^ 64 - 1 - w) i (omega arith)))))
+    ap (λ (x : Bool). same x false) (get_or-bits 64 w i (omega arith)) ∙ same-flip (digit w i)
+    ∙ ap (λ (x : Bool). same x true) (sym (digit_not 64 w i fits (omega arith)) ∙ sym (get_or-bits 64 (2 ^ 64 - 1 - w) i (omega arith)))))
 
 -- ---- all the words
 
@@ -318,8 +318,8 @@ or_at (w ∷ ws) base u e h i hi = go (or_at ws (base + 64) u e h) (ltb i 64) re
         let lt = ltb-true i 64 t in
         let lv = length-bits 64 (bit_or w (2 ^ within base e - 2 ^ within base u)) in
         let lw = length-bits 64 w in
-        let a : get_or (bits 64 w ++ unpack ws) i false ≡ digit w i = get_or-append (bits 64 w) (unpack ws) false i (omega arith) ∙ get_d_bits 64 w i lt in
-        get_or-append (bits 64 (bit_or w (2 ^ within base e - 2 ^ within base u))) (unpack (or_words (base + 64) u e ws)) false i (omega arith) ∙ get_d_bits 64 (bit_or w (2 ^ within base e - 2 ^ within base u)) i lt
+        let a : get_or (bits 64 w ++ unpack ws) i false ≡ digit w i = get_or-append (bits 64 w) (unpack ws) false i (omega arith) ∙ get_or-bits 64 w i lt in
+        get_or-append (bits 64 (bit_or w (2 ^ within base e - 2 ^ within base u))) (unpack (or_words (base + 64) u e ws)) false i (omega arith) ∙ get_or-bits 64 (bit_or w (2 ^ within base e - 2 ^ within base u)) i lt
         ∙ digit_or w (2 ^ within base e - 2 ^ within base u) i
         ∙ ap (λ (x : Bool). choose (digit w i) true x) (digit_mask (within base e) (within base u) i (within-mono base u e h) ∙ in_within base u e i lt)
         ∙ choose-swap (digit w i) (in_r u e (base + i)) ∙ ap (λ (x : Bool). choose (in_r u e (base + i)) true x) (sym a)
@@ -402,7 +402,7 @@ one_bit w k h f =
     let p : 2 ^ suc k ≡ 2 ^ k * 2 = pow-suc 2 k in
     let e : 2 ^ suc k - 2 ^ k ≡ 2 ^ k = omega arith in
     let n : suc k - k ≡ 1 = omega arith in
-    rw (e, n) at (word-true w k (suc k) (omega arith) h f) ∙ one_has (bits 64 w) k ∙ get_d_bits 64 w k h
+    rw (e, n) at (word-true w k (suc k) (omega arith) h f) ∙ one_has (bits 64 w) k ∙ get_or-bits 64 w k h
 
 pub marked-is : (ws : List ℕ) (u : ℕ) → length ws ≡ 4 → ((i : ℕ) → get_or ws i 0 < 2 ^ 64) → u < 256
     → not (eqb (bit_and (get_or ws (u / 64) 0) (2 ^ (u % 64))) 0) ≡ get_or (unpack ws) u false

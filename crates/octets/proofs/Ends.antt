@@ -15,17 +15,17 @@ pub record Full {A : Type 0} (m : Reader A) (k : ℕ) : Type 0 where
   pub ends : (s : List ℕ) (at : ℕ) → length s < at + k → m s at ≡ refused 1
   pub front : (s y : List ℕ) (at : ℕ) → at + k ≤ length s → m (s ++ y) at ≡ m s at
 
-get_d_front : (s y : List ℕ) (at : ℕ) → at < length s → get_or (s ++ y) at 0 ≡ get_or s at 0
-get_d_front [] y at h = absurd (not-suc-le-zero h)
-get_d_front (a ∷ s) y zero h = refl
-get_d_front (a ∷ s) y (suc at) h = get_d_front s y at (le_of_suc-le-suc h)
+get_or-front : (s y : List ℕ) (at : ℕ) → at < length s → get_or (s ++ y) at 0 ≡ get_or s at 0
+get_or-front [] y at h = absurd (not-suc-le-zero h)
+get_or-front (a ∷ s) y zero h = refl
+get_or-front (a ∷ s) y (suc at) h = get_or-front s y at (le_of_suc-le-suc h)
 
 full-byte : Full byte 1
 unfolding byte
 full-byte = record {
   reads = λ s at h. (get_or s at 0, rw (lt-ltb at (length s) (omega arith)) refl);
   ends = λ s at h. rw (le-ltb at (length s) (omega arith)) refl;
-  front = λ s y at h. rw (lt-ltb at (length s) (omega arith), lt-ltb at (length (s ++ y)) (omega (arith, length-append s y))) (ap (λ z. got z (at + 1)) (get_d_front s y at (omega arith)));
+  front = λ s y at h. rw (lt-ltb at (length s) (omega arith), lt-ltb at (length (s ++ y)) (omega (arith, length-append s y))) (ap (λ z. got z (at + 1)) (get_or-front s y at (omega arith)));
 }
 
 -- two fields of which a value is made

@@ -19,7 +19,7 @@ use Rattle.reassembly.specs.declared.slot.Slot.{Slot}
 use Rattle.reassembly.specs.declared.slot.Source.{Source}
 use Rattle.reassembly.specs.declared.table.Table.{Table}
 use Rattle.reassembly.proofs.Tests.{by-test, and_left, and_right}
-use Rattle.reassembly.proofs.Lists.{get_d_any, first_at-holds, first_at-found}
+use Rattle.reassembly.proofs.Lists.{get_or-any, first_at-holds, first_at-found}
 use Rattle.reassembly.proofs.Gateways.{is_key-key, length-expire, expire1-young, may_open-rule}
 use Rattle.reassembly.proofs.Memory.{length-chunk}
 
@@ -233,7 +233,7 @@ module _ (tb : Table) (m o : List ℕ) (t : ℕ) (p : Part) where
           step-offer : f < 8 → (d : Slot) → step (state tb m) (lent_call m o (part t p)) ≡ land (state tb m) t f 0 (offer (get_or x.slots f d) (chunk f m) p)
           unfolding take_part offer_at
           step-offer h d =
-              let s : get_or (slots_at t (state tb m)) f free_slot ≡ get_or x.slots f d = rw slots-are (get_d_any x.slots f free_slot d (omega (arith, G.eight))) in
+              let s : get_or (slots_at t (state tb m)) f free_slot ≡ get_or x.slots f d = rw slots-are (get_or-any x.slots f free_slot d (omega (arith, G.eight))) in
               timed ∙ rw (sym gates-are ∙ known, good, where-is, lt-ltb f 8 h, s)
 
           pub leaves-offer : f < 8 → (d : Slot) (q : Put) → q ≡ offer (get_or x.slots f d) (chunk f m) p

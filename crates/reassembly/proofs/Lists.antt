@@ -30,18 +30,18 @@ pub drop-end : {A : Type 0} (l : List A) (i : ℕ) → length l ≡ i → drop i
 drop-end l i h = rw (← h) (drop-length l)
 
 -- within the list the default does not matter
-pub get_d_any : {A : Type 0} (l : List A) (i : ℕ) (d e : A) → i < length l → get_or l i d ≡ get_or l i e
-get_d_any [] i d e h = absurd (not-suc-le-zero h)
-get_d_any (a ∷ l) zero d e h = refl
-get_d_any (a ∷ l) (suc i) d e h = get_d_any l i d e (le_of_suc-le-suc h)
+pub get_or-any : {A : Type 0} (l : List A) (i : ℕ) (d e : A) → i < length l → get_or l i d ≡ get_or l i e
+get_or-any [] i d e h = absurd (not-suc-le-zero h)
+get_or-any (a ∷ l) zero d e h = refl
+get_or-any (a ∷ l) (suc i) d e h = get_or-any l i d e (le_of_suc-le-suc h)
 
 -- ---- a run of stores, element by element
 
 module _ {A : Type 0} where
-  pub get_d_sets_before : (vs l : List A) (i x : ℕ) (d : A) → x < i → get_or (sets l i vs) x d ≡ get_or l x d
-  get_d_sets_before [] l i x d h = refl
-  get_d_sets_before (a ∷ vs) l i x d h =
-      get_d_sets_before vs (set l i a) (suc i) x d (omega arith) ∙ get_or-set_other l i x a d (omega arith)
+  pub get_or-sets-before : (vs l : List A) (i x : ℕ) (d : A) → x < i → get_or (sets l i vs) x d ≡ get_or l x d
+  get_or-sets-before [] l i x d h = refl
+  get_or-sets-before (a ∷ vs) l i x d h =
+      get_or-sets-before vs (set l i a) (suc i) x d (omega arith) ∙ get_or-set_other l i x a d (omega arith)
 
   pub get_or-sets-after : (vs l : List A) (i x : ℕ) (d : A) → i + length vs ≤ x → get_or (sets l i vs) x d ≡ get_or l x d
   get_or-sets-after [] l i x d h = refl
@@ -54,7 +54,7 @@ module _ {A : Type 0} where
   get_or-sets-in (a ∷ vs) l i x d h k m = by_order x i
       (λ e. let xi : x ≡ i = omega arith in
       let z : x - i ≡ 0 = omega arith in
-      get_d_sets_before vs (set l i a) (suc i) x d (omega arith)
+      get_or-sets-before vs (set l i a) (suc i) x d (omega arith)
       ∙ rw (z, xi) (get_or-set_same l i a d (omega arith)))
       (λ e. let z : x - i ≡ suc (x - suc i) = omega arith in
       get_or-sets-in vs (set l i a) (suc i) x d (omega arith) (omega arith) (omega (arith, length-set l i a))

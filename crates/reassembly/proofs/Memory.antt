@@ -12,7 +12,7 @@ use Rattle.reassembly.specs.Parts.{Put, Does}
 use Rattle.reassembly.specs.Table.{chunk, splice, Lands}
 use Rattle.reassembly.specs.declared.part.InSlot.{InSlot}
 use Rattle.reassembly.proofs.Tests.{by_order}
-use Rattle.reassembly.proofs.Lists.{put-sets, get_d_sets_before, get_or-sets-after, get_or-sets-in}
+use Rattle.reassembly.proofs.Lists.{put-sets, get_or-sets-before, get_or-sets-after, get_or-sets-in}
 
 pub length-chunk : (i : ℕ) (m : List ℕ) → i * 2048 + 2048 ≤ length m → length (chunk i m) ≡ 2048
 unfolding chunk
@@ -22,9 +22,9 @@ pub length-splice : (m : List ℕ) (i : ℕ) (b : List ℕ) → length (splice m
 unfolding splice
 length-splice m i b = length-put (i * 2048) b m
 
-get_d_chunk : (i : ℕ) (m : List ℕ) (x : ℕ) → x < 2048 → get_or (chunk i m) x 0 ≡ get_or m (i * 2048 + x) 0
+get_or-chunk : (i : ℕ) (m : List ℕ) (x : ℕ) → x < 2048 → get_or (chunk i m) x 0 ≡ get_or m (i * 2048 + x) 0
 unfolding chunk
-get_d_chunk i m x h = get_or-take 2048 (drop (i * 2048) m) x 0 h ∙ get_or-drop (i * 2048) m x 0
+get_or-chunk i m x h = get_or-take 2048 (drop (i * 2048) m) x 0 h ∙ get_or-drop (i * 2048) m x 0
 
 -- the slot's own part is what was put there
 pub chunk-same : (m : List ℕ) (i : ℕ) (b : List ℕ) → i * 2048 + 2048 ≤ length m → length b ≡ 2048 → chunk i (splice m i b) ≡ b
@@ -35,7 +35,7 @@ chunk-same m i b h l =
     let z : i * 2048 + x - i * 2048 ≡ x = omega arith in
     let e : get_or (splice m i b) (i * 2048 + x) 0 ≡ get_or b (i * 2048 + x - i * 2048) 0 =
     unfold splice in (rw (put-sets (i * 2048) b m (omega arith)) (get_or-sets-in b m (i * 2048) (i * 2048 + x) 0 (omega arith) (omega arith) (omega arith))) in
-    get_d_chunk i (splice m i b) x small ∙ e ∙ rw z refl)
+    get_or-chunk i (splice m i b) x small ∙ e ∙ rw z refl)
 
 -- every other slot's part stays
 pub chunk-other : (m : List ℕ) (i j : ℕ) (b : List ℕ) → i * 2048 + 2048 ≤ length m → j * 2048 + 2048 ≤ length m → length b ≡ 2048 → i ≢ j → chunk j (splice m i b) ≡ chunk j m
@@ -46,8 +46,8 @@ chunk-other m i j b k h l d =
     let small : x < 2048 = omega arith in
     let e : get_or (splice m i b) (j * 2048 + x) 0 ≡ get_or m (j * 2048 + x) 0 = by_order i j
     (λ q. unfold splice in (rw (put-sets (i * 2048) b m (omega arith)) (get_or-sets-after b m (i * 2048) (j * 2048 + x) 0 (omega arith))))
-    (λ q. unfold splice in (rw (put-sets (i * 2048) b m (omega arith)) (get_d_sets_before b m (i * 2048) (j * 2048 + x) 0 (omega arith)))) in
-    get_d_chunk j (splice m i b) x small ∙ e ∙ sym (get_d_chunk j m x small))
+    (λ q. unfold splice in (rw (put-sets (i * 2048) b m (omega arith)) (get_or-sets-before b m (i * 2048) (j * 2048 + x) 0 (omega arith)))) in
+    get_or-chunk j (splice m i b) x small ∙ e ∙ sym (get_or-chunk j m x small))
 
 -- ---- a slot's part that is lent on and comes back
 

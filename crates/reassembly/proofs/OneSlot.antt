@@ -22,7 +22,7 @@ use Rattle.reassembly.specs.Parts.{Part, units, fits, spans, repeats_in, repeats
 use Rattle.reassembly.specs.declared.slot.Key.{Key}
 use Rattle.reassembly.specs.declared.slot.Slot.{Slot}
 use Rattle.reassembly.proofs.Tests.{no_both, by-test, by_order, not-true-false, and_left, and_right, or_cases, or_left, or_right}
-use Rattle.reassembly.proofs.Lists.{get_d_sets_before, get_or-sets-after, get_or-sets-in, put-sets, same_list-refl, same_list-eq}
+use Rattle.reassembly.proofs.Lists.{get_or-sets-before, get_or-sets-after, get_or-sets-in, put-sets, same_list-refl, same_list-eq}
 use Rattle.reassembly.specs.Cover.{In, Has, Covers}
 use Rattle.marks.proofs.Ranges.{has-unit, unit-has, whole-unit, unit-whole, fill-in, fill-before, fill-after, no-marks, none-marked}
 use Rattle.reassembly.proofs.Fits.{Fit, fit, HasUnit, unit→byte, byte→unit, unit→bytes, units-end, units-pos, units-same}
@@ -368,7 +368,7 @@ module _ (k : Key) (ps : List Part) (s : Slot) (b : List ℕ) (P : Holds k ps s 
         (λ a. by_order (q.unit * 8 + length q.bytes) x
         (λ c. get_or-sets-after q.bytes b (q.unit * 8) x 0 c)
         (λ c. absurd (clear_at (x / 8) (byte→unit q x (a, c)) (P.marked p m (x / 8) (byte→unit p x h)))))
-        (λ a. get_d_sets_before q.bytes b (q.unit * 8) x 0 a))
+        (λ a. get_or-sets-before q.bytes b (q.unit * 8) x 0 a))
 
     new-byte : (x : ℕ) → Has q x → get_or (written b q) x 0 ≡ get_or q.bytes (x - q.unit * 8) 0
     new-byte x h =

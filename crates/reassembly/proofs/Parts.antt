@@ -21,7 +21,7 @@ use Rattle.octets.specs.declared.refusal.Refusal.{Refusal}
 use Rattle.reassembly.specs.Slots.{free_slot}
 use Rattle.reassembly.specs.Parts.{Part, Reply, kept, out, refused, told, output_after, repeats, touches, taken_in, taken, written, units, full, finish, handed, Hands, place, offer, Does}
 use Rattle.reassembly.proofs.Tests.{by-test}
-use Rattle.reassembly.proofs.Lists.{get_d_sets_before, get_or-sets-after, put-sets}
+use Rattle.reassembly.proofs.Lists.{get_or-sets-before, get_or-sets-after, put-sets}
 use Rattle.reassembly.specs.declared.slot.Key.{Key}
 use Rattle.reassembly.specs.declared.slot.Slot.{Slot}
 use Rattle.reassembly.specs.declared.part.Outcome.{Outcome}
@@ -32,7 +32,7 @@ length-finish m d = length-summed m d
 
 summed-byte : (i u : ℕ) (d : List ℕ) (x : ℕ) → u + 8 ≤ length d → (x < u + 6) ⊎ (u + 8 ≤ x) → get_or (summed_at i u d) x 0 ≡ get_or d x 0
 unfolding be16_bytes
-summed-byte i u d x l (inl h) = rw (summed-put i u d, put-sets (u + 6) (be16_bytes (checksum_at i u d)) d (omega arith)) (get_d_sets_before (be16_bytes (checksum_at i u d)) d (u + 6) x 0 h)
+summed-byte i u d x l (inl h) = rw (summed-put i u d, put-sets (u + 6) (be16_bytes (checksum_at i u d)) d (omega arith)) (get_or-sets-before (be16_bytes (checksum_at i u d)) d (u + 6) x 0 h)
 summed-byte i u d x l (inr h) = rw (summed-put i u d, put-sets (u + 6) (be16_bytes (checksum_at i u d)) d (omega arith)) (get_or-sets-after (be16_bytes (checksum_at i u d)) d (u + 6) x 0 (omega arith))
 
 -- a computed checksum aside, each byte is handed out as it stands in the slot

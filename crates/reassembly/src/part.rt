@@ -18,8 +18,8 @@ const SMALLEST: usize = 40;
 
 pub const LARGEST: usize = 2047;
 
-// A part beside its bytes, which are lent: specs/Parts.antt has the two as one (`with_bytes`). `sum` is read of the part
-// at byte 0 only.
+// A part beside its bytes, which are lent: specs/Parts.antt has the two as one (`with_bytes`). `sum` is read of the
+// part at byte 0 only.
 #[derive(Clone, Copy)]
 pub struct Part {
     pub key: Key,

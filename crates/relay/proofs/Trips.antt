@@ -188,15 +188,15 @@ after-broadcast f x q e g p n i = relay-at (record { mesh = f; broadcast = ByteF
         there (ByteField.Some x) = 1
 
 -- ---- in the room that `emit` leaves, whatever else the room holds
-get_d_drop : (n : ℕ) (l : List ℕ) → get_or (drop n l) 0 0 ≡ get_or l n 0
-get_d_drop zero l = refl
-get_d_drop (suc n) [] = refl
-get_d_drop (suc n) (a ∷ l) = get_d_drop n l
+get_or-drop : (n : ℕ) (l : List ℕ) → get_or (drop n l) 0 0 ≡ get_or l n 0
+get_or-drop zero l = refl
+get_or-drop (suc n) [] = refl
+get_or-drop (suc n) (a ∷ l) = get_or-drop n l
 
 pub emit-then-read : (r : Relay) (room : List ℕ) → has_addresses r.mesh ≡ true → relay_length r ≤ length room → is_either (get_or room (relay_length r) 0) ≡ false → relay (relay_over r room) 0 ≡ got r (relay_length r)
 emit-then-read r room e l f =
     rw (e, le-leb (relay_length r) (length room) l)
-    (relay-trip r (drop (relay_length r) room) e (ap is_either (get_d_drop (relay_length r) room) ∙ f) [] 0 refl ∙ ap (got r) (zero-add (length (relay_bytes r)) ∙ length-relay r))
+    (relay-trip r (drop (relay_length r) room) e (ap is_either (get_or-drop (relay_length r) room) ∙ f) [] 0 refl ∙ ap (got r) (zero-add (length (relay_bytes r)) ∙ length-relay r))
 
 -- and only there: the condition on what follows is exact
 pub only-before : (r : Relay) (p q : List ℕ) (n : ℕ) → length p ≡ n → relay (p ++ (relay_bytes r ++ q)) n ≡ got r (n + length (relay_bytes r)) → is_either (get_or q 0 0) ≡ false

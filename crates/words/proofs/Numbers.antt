@@ -16,7 +16,7 @@ use Rattle.reassembly.specs.declared.slot.Key.{Key}
 use Rattle.reassembly.specs.declared.slot.Slot.{Slot}
 use Rattle.reassembly.specs.declared.table.Table.{Table}
 use Rattle.reassembly.proofs.Tests.{by_order}
-use Rattle.reassembly.proofs.Lists.{put-sets, get_d_sets_before, get_or-sets-after, get_or-sets-in}
+use Rattle.reassembly.proofs.Lists.{put-sets, get_or-sets-before, get_or-sets-after, get_or-sets-in}
 use Rattle.words.specs.Words.{node_in, source_in, four_in, key_of, sum_of, slot_in, slots_in, seats_in, table_in, with_slot, with_seat, source_words, packed, head_words, tail_words, slot_words}
 use Rattle.words.proofs.Each.{length-each, get_or-each, each-is, each_same, each_set}
 
@@ -110,7 +110,7 @@ module _ (k : ℕ) (vs ws : List ℕ) (room : k + length vs ≤ length ws) where
       ∙ ap (λ x. get_or vs x 0) (z ∙ sym (zero-add d))
 
   put-before : (x : ℕ) → x < k → get_or (put k vs ws) x 0 ≡ get_or ws x 0
-  put-before x h = ap (λ l. get_or l x 0) (put-sets k vs ws room) ∙ get_d_sets_before vs ws k x 0 h
+  put-before x h = ap (λ l. get_or l x 0) (put-sets k vs ws room) ∙ get_or-sets-before vs ws k x 0 h
 
   put-after : (x : ℕ) → k + length vs ≤ x → get_or (put k vs ws) x 0 ≡ get_or ws x 0
   put-after x h = ap (λ l. get_or l x 0) (put-sets k vs ws room) ∙ get_or-sets-after vs ws k x 0 h
