@@ -83,15 +83,10 @@ fn is_near_full(out: &[u8], to: usize, len: usize) -> bool {
     left - LONGEST < len
 }
 
-// Writes the bytes out; answers whether all of them went.
-fn send<W: Write>(writer: &mut W, bytes: &[u8]) -> bool {
-    writer.write_all(bytes).is_ok()
-}
-
 // Writes the output out where it is near full; answers the place in it, and NONE where the write failed.
 fn make_room<W: Write>(writer: &mut W, out: &[u8], to: usize, len: usize) -> usize {
     if is_near_full(out, to, len) {
-        if send(writer, field::upto(out, to)) {
+        if writer.write_all(field::upto(out, to)).is_ok() {
             return 0;
         }
         return field::NONE;
@@ -110,7 +105,7 @@ fn too_long<W: Write>(writer: &mut W, u: Unread, session: Session) -> Progress {
     if u.skip {
         return going(unread, session, 0);
     }
-    if send(writer, b"bad long\n") {
+    if writer.write_all(b"bad long\n").is_ok() {
         return going(unread, session, 0);
     }
     stopped(session)
@@ -164,7 +159,7 @@ fn refill<R: Read, W: Write>(
     let u = r.unread;
     let start = u.start;
     let have = u.have;
-    if !send(writer, field::upto(out, session.to)) {
+    if writer.write_all(field::upto(out, session.to)).is_err() {
         return stopped(session);
     }
     if have < start {

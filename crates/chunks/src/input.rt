@@ -47,15 +47,10 @@ fn is_near_full(out: &[u8], to: usize, len: usize) -> bool {
     left - LONGEST < len
 }
 
-// Writes the bytes out; answers whether all of them went.
-fn send<W: Write>(sink: &mut W, bytes: &[u8]) -> bool {
-    sink.write_all(bytes).is_ok()
-}
-
 // Writes the output out where it is near full; answers the place in it, and NONE where the write failed.
 pub fn make_room<W: Write>(sink: &mut W, out: &[u8], to: usize, len: usize) -> usize {
     if is_near_full(out, to, len) {
-        if send(sink, field::upto(out, to)) {
+        if sink.write_all(field::upto(out, to)).is_ok() {
             return 0;
         }
         return field::NONE;
@@ -86,7 +81,7 @@ fn too_long<W: Write>(sink: &mut W, u: Unread) -> Unread {
     let more = if u.skip {
         true
     } else {
-        send(sink, b"bad long\n")
+        sink.write_all(b"bad long\n").is_ok()
     };
     Unread {
         start: 0,
@@ -138,7 +133,7 @@ pub fn refill<R: Read, W: Write>(
 ) -> Unread {
     let start = u.start;
     let have = u.have;
-    if !send(sink, field::upto(out, to)) {
+    if sink.write_all(field::upto(out, to)).is_err() {
         return Unread::STOPPED;
     }
     if have < start {

@@ -85,15 +85,10 @@ fn is_near_full(out: &[u8], to: usize, len: usize) -> bool {
     left - LONGEST < len
 }
 
-// Writes the bytes out; answers whether all of them went.
-fn send<W: Write>(writer: &mut W, bytes: &[u8]) -> bool {
-    writer.write_all(bytes).is_ok()
-}
-
 // Writes the output out where it is near full; answers the place in it, and NONE where the write failed.
 fn make_room<W: Write>(writer: &mut W, out: &[u8], to: usize, len: usize) -> usize {
     if is_near_full(out, to, len) {
-        if send(writer, field::upto(out, to)) {
+        if writer.write_all(field::upto(out, to)).is_ok() {
             return 0;
         }
         return field::NONE;
@@ -106,7 +101,7 @@ fn too_long<W: Write>(writer: &mut W, skip: bool) -> Progress {
     if skip {
         return going(0, 0, true);
     }
-    if send(writer, b"bad long\n") {
+    if writer.write_all(b"bad long\n").is_ok() {
         return going(0, 0, true);
     }
     Progress::STOPPED
@@ -140,7 +135,7 @@ fn refill<R: Read, W: Write>(
 ) -> Progress {
     let start = r.start;
     let have = r.have;
-    if !send(writer, field::upto(out, r.to)) {
+    if writer.write_all(field::upto(out, r.to)).is_err() {
         return Progress::STOPPED;
     }
     if have < start {

@@ -9,8 +9,9 @@
 // for.
 #![tactic(auto)]
 
-ghost use Rattle.std.specs.Prelude.{◌≡◌, length};
+ghost use Rattle.std.specs.Prelude.{◌≡◌, ◌≤◌, length, IfOk, OnOk, MatchResult, IsUtf8};
 ghost use Rattle.ends.specs.Closing.{Status};
+ghost use Rattle.ends.specs.Line.{AppendsLine};
 
 use std::env::{Env, FillError};
 use std::fs::{File, OpenOptions};
@@ -99,11 +100,6 @@ fn standard(rt: &HostRuntime) -> Ends {
     }
 }
 
-// Writes bytes to standard error, as far as it takes them.
-pub fn say(mut errors: Stderr, what: &[u8]) {
-    let _ = errors.write_all(what);
-}
-
 // The system's text of an error, without its number.
 fn without_number(text: &str) -> &str {
     match text.split_once(" (os error ") {
@@ -112,18 +108,33 @@ fn without_number(text: &str) -> &str {
     }
 }
 
-// Writes a line to standard error: what failed, as the caller names it, a colon and the error's text.
-pub fn fail(errors: Stderr, what: &[u8], error: &io::Error) {
+// The system's text of an error, in the front of a room, and how long it is.
+fn told(error: &io::Error) -> ([u8; 512], usize) {
     let mut room = Cursor::new([0u8; 512]);
     let _ = write!(room, "{error}");
     let n = room.position() as usize;
     let bytes = room.into_inner();
-    say(errors, what);
-    say(errors, b": ");
-    if let Ok(text) = str::from_utf8(upto(&bytes, n)) {
-        say(errors, without_number(text).as_bytes());
-    }
-    say(errors, b"\n");
+    let len = match str::from_utf8(upto(&bytes, n)) {
+        Ok(text) => without_number(text).len(),
+        Err(_) => 0,
+    };
+    (bytes, len)
+}
+
+// Writes a line: what failed, as the caller names it, a colon and the error's text. What cannot be written is passed
+// over, and answered last.
+pub fn fail<W: Write>(errors: &mut W, what: &[u8], error: &io::Error) -> io::Result<()>
+    ensures { OnOk result (AppendsLine (W.contents errors.old) (W.contents errors.new) what.now) }
+{
+    let (text, n) = told(error);
+    let label = errors.write_all(what);
+    let colon = errors.write_all(b": ");
+    let words = errors.write_all(upto(&text, n));
+    let end = errors.write_all(b"\n");
+    label?;
+    colon?;
+    words?;
+    end
 }
 
 // Why an argument cannot be had.
@@ -135,7 +146,9 @@ fn missing(error: FillError) -> io::Error {
 }
 
 // A name as text.
-fn text_of(name: &[u8]) -> io::Result<&str> {
+fn text_of(name: &[u8]) -> io::Result<&str>
+    ensures { MatchResult result (λ s. (s.now ≡ name.now) × IsUtf8 name.now) (λ _. ¬ (IsUtf8 name.now)) }
+{
     match str::from_utf8(name) {
         Ok(text) => Ok(text),
         Err(_) => Err(io::Error::from_raw_os_error(EILSEQ)),
@@ -143,7 +156,9 @@ fn text_of(name: &[u8]) -> io::Result<&str> {
 }
 
 // How many arguments the program was started with, its own name among them; 4 where there are more.
-pub fn arg_count(rt: &HostRuntime) -> usize {
+pub fn arg_count(rt: &HostRuntime) -> usize
+    ensures { result ≤ 4 }
+{
     let mut room = [0u8; 1];
     for n in 0..4usize {
         if let Err(FillError::NotPresent) = rt.arg(n, &mut room) {
@@ -153,8 +168,10 @@ pub fn arg_count(rt: &HostRuntime) -> usize {
     4
 }
 
-// Opens a file to read.
-pub fn open_read(rt: &HostRuntime, name: &[u8]) -> io::Result<File> {
+// Opens a file to read: none whose name is no text.
+pub fn open_read(rt: &HostRuntime, name: &[u8]) -> io::Result<File>
+    ensures { IfOk result (λ _. IsUtf8 name.now) }
+{
     File::open(rt, text_of(name)?)
 }
 
@@ -181,14 +198,14 @@ fn open_both(rt: &HostRuntime, from: &[u8], part: &[u8], name: usize) -> Ends {
     let input = match open_read(rt, from) {
         Ok(file) => file,
         Err(e) => {
-            fail(rt.stderr(), from, &e);
+            let _ = fail(&mut rt.stderr(), from, &e);
             return unready(rt);
         }
     };
     let output = match create(rt, part) {
         Ok(file) => file,
         Err(e) => {
-            fail(rt.stderr(), part, &e);
+            let _ = fail(&mut rt.stderr(), part, &e);
             return unready(rt);
         }
     };
@@ -207,13 +224,13 @@ fn open_named(rt: &HostRuntime, from: &[u8], part: &mut [u8]) -> Ends {
     let name = match rt.arg(2, part) {
         Ok(n) => n,
         Err(e) => {
-            fail(rt.stderr(), b"the second argument", &missing(e));
+            let _ = fail(&mut rt.stderr(), b"the second argument", &missing(e));
             return unready(rt);
         }
     };
     let all = print::text(part, name, b".part");
     if all == name {
-        say(rt.stderr(), b"the second argument is too long\n");
+        let _ = rt.stderr().write_all(b"the second argument is too long\n");
         return unready(rt);
     }
     open_both(rt, from, upto(part, all), name)
@@ -228,14 +245,14 @@ pub fn open(rt: &HostRuntime, usage: &[u8], part: &mut [u8]) -> Ends
         return standard(rt);
     }
     if n != 3 {
-        say(rt.stderr(), usage);
+        let _ = rt.stderr().write_all(usage);
         return unready(rt);
     }
     let mut from = [0u8; 4096];
     let m = match rt.arg(1, &mut from) {
         Ok(m) => m,
         Err(e) => {
-            fail(rt.stderr(), b"the first argument", &missing(e));
+            let _ = fail(&mut rt.stderr(), b"the first argument", &missing(e));
             return unready(rt);
         }
     };
@@ -262,12 +279,14 @@ pub fn close(rt: &HostRuntime, e: Ends, whole: bool, part: &[u8]) -> i32
     }
     let closed = shut(e.output);
     if let Err(error) = closed {
-        fail(rt.stderr(), b"close", &error);
+        let _ = fail(&mut rt.stderr(), b"close", &error);
     }
     if whole && closed.is_ok() {
         match rename(rt, upto(part, all), upto(part, name)) {
             Ok(()) => return 0,
-            Err(error) => fail(rt.stderr(), upto(part, name), &error),
+            Err(error) => {
+                let _ = fail(&mut rt.stderr(), upto(part, name), &error);
+            }
         }
     }
     let _ = unlink(rt, upto(part, all));

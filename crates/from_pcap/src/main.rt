@@ -71,19 +71,19 @@ fn sent(e: &mut Ends, out: &[u8], n: usize) -> bool {
     match e.output.write_all(upto(out, n)) {
         Ok(()) => true,
         Err(error) => {
-            ends::fail(e.errors, b"write", &error);
+            let _ = ends::fail(&mut e.errors, b"write", &error);
             false
         }
     }
 }
 
 // The line `no R` on standard error.
-fn refuse(errors: Stderr, number: u8) {
+fn refuse(mut errors: Stderr, number: u8) {
     let mut line = [0u8; 64];
     let a = print::text(&mut line, 0, b"no ");
     let b = print::decimal(&mut line, a, number as u64);
     let c = print::text(&mut line, b, b"\n");
-    ends::say(errors, upto(&line, c));
+    let _ = errors.write_all(upto(&line, c));
 }
 
 // The block of the next frames behind the blocks that were put before, for which there is room.
@@ -251,7 +251,7 @@ fn turn(k: Kept, e: &mut Ends, input: &mut [u8], out: &mut [u8]) -> Kept {
     let n = match e.input.read(&mut input[have..]) {
         Ok(n) => n,
         Err(error) => {
-            ends::fail(e.errors, b"read", &error);
+            let _ = ends::fail(&mut e.errors, b"read", &error);
             return stopped(k.due);
         }
     };

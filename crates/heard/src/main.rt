@@ -45,15 +45,19 @@ fn write(ways: &mut Ways, text: &[u8]) -> bool {
     match ways.lines.write_all(text) {
         Ok(()) => true,
         Err(error) => {
-            ends::fail(ways.errors, b"heard: the lines cannot be written", &error);
+            let _ = ends::fail(
+                &mut ways.errors,
+                b"heard: the lines cannot be written",
+                &error,
+            );
             false
         }
     }
 }
 
 // Says why the capture cannot be read on. The run is over, without a last line.
-fn unread(ear: Ear, errors: Stderr, error: &io::Error) -> Kept {
-    ends::fail(errors, b"heard: the capture cannot be read", error);
+fn unread(ear: Ear, mut errors: Stderr, error: &io::Error) -> Kept {
+    let _ = ends::fail(&mut errors, b"heard: the capture cannot be read", error);
     Kept {
         ear,
         have: 0,
@@ -171,7 +175,7 @@ fn run(ways: &mut Ways, input: &mut [u8], mem: &mut [u8], out: &mut [u8], text: 
 
 // Says what is wanted. There is nothing to read.
 fn usage(rt: &HostRuntime) -> Option<ReadEnd> {
-    ends::say(rt.stderr(), b"usage: heard [CAPTURE]\n");
+    let _ = rt.stderr().write_all(b"usage: heard [CAPTURE]\n");
     None
 }
 
@@ -191,7 +195,7 @@ fn named(rt: &HostRuntime, path: &mut [u8]) -> Option<ReadEnd> {
     match ends::open_read(rt, name) {
         Ok(file) => Some(ReadEnd::Named(file)),
         Err(error) => {
-            ends::fail(rt.stderr(), name, &error);
+            let _ = ends::fail(&mut rt.stderr(), name, &error);
             None
         }
     }

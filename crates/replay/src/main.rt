@@ -72,16 +72,11 @@ fn is_near_full(out: &[u8], to: usize, len: usize) -> bool {
     left - ANSWER < len
 }
 
-// Writes the bytes out; answers whether all of them went.
-fn send<W: Write>(writer: &mut W, bytes: &[u8]) -> bool {
-    writer.write_all(bytes).is_ok()
-}
-
 // Writes the output out where it is near full.
 fn drained<W: Write>(writer: &mut W, d: Done, out: &[u8], len: usize) -> Done {
     let to = d.to;
     if is_near_full(out, to, len) {
-        let sent = send(writer, field::upto(out, to));
+        let sent = writer.write_all(field::upto(out, to)).is_ok();
         return Done {
             start: d.start,
             skip: d.skip,
@@ -166,7 +161,7 @@ fn last<W: Write>(
         return stopped();
     }
     let n = answered(field::upto(input, have), a, out, 0);
-    send(writer, field::upto(out, n));
+    let _ = writer.write_all(field::upto(out, n));
     stopped()
 }
 
@@ -189,7 +184,7 @@ fn too_long<W: Write>(writer: &mut W, d: Done, out: &mut [u8]) -> Kept {
         };
     }
     let n = print::text(out, d.to, b"bad long\n");
-    let sent = send(writer, field::upto(out, n));
+    let sent = writer.write_all(field::upto(out, n)).is_ok();
     Kept {
         have: 0,
         skip: true,
@@ -217,7 +212,7 @@ fn rest<W: Write>(writer: &mut W, input: &mut [u8], all: usize, d: Done, out: &m
         return stopped();
     }
     line::shift(&mut input[0..all], start);
-    let sent = send(writer, field::upto(out, d.to));
+    let sent = writer.write_all(field::upto(out, d.to)).is_ok();
     Kept {
         have: all - start,
         skip: d.skip,

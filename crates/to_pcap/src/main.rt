@@ -43,14 +43,14 @@ fn stopped(due: ToPcap) -> Kept {
 }
 
 // The line `no R at block B` on standard error.
-fn refuse(errors: Stderr, number: u8, block: u64) {
+fn refuse(mut errors: Stderr, number: u8, block: u64) {
     let mut line = [0u8; 64];
     let a = print::text(&mut line, 0, b"no ");
     let b = print::decimal(&mut line, a, number as u64);
     let c = print::text(&mut line, b, b" at block ");
     let d = print::decimal(&mut line, c, block);
     let e = print::text(&mut line, d, b"\n");
-    ends::say(errors, upto(&line, e));
+    let _ = errors.write_all(upto(&line, e));
 }
 
 // One block behind what was put before.
@@ -116,7 +116,7 @@ fn sent(e: &mut Ends, out: &[u8], n: usize) -> bool {
     match e.output.write_all(upto(out, n)) {
         Ok(()) => true,
         Err(error) => {
-            ends::fail(e.errors, b"write", &error);
+            let _ = ends::fail(&mut e.errors, b"write", &error);
             false
         }
     }
@@ -170,7 +170,7 @@ fn turn(k: Kept, e: &mut Ends, input: &mut [u8], out: &mut [u8]) -> Kept {
     let n = match e.input.read(&mut input[have..]) {
         Ok(n) => n,
         Err(error) => {
-            ends::fail(e.errors, b"read", &error);
+            let _ = ends::fail(&mut e.errors, b"read", &error);
             return stopped(due);
         }
     };
