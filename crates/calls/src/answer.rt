@@ -1,89 +1,80 @@
-// The parts of an answer. Each puts its text at a place of the output and answers the place after it.
+// The parts of an answer.
+// By functions and not by `Display`: the types are of other crates, and the form is this program's (tests/README.md).
 use octets::refusal::Refusal;
 use reassembly::{Key, Node, Outcome, Slot, Source};
-use text::{field, print};
+use text::field::upto;
+use text::out::Out;
 use words::WORDS;
 
-pub fn refused(out: &mut [u8], to: usize, e: Refusal) -> usize {
-    let n = print::text(out, to, b"no ");
-    print::decimal(out, n, e.number() as u64)
-}
-
 // What a call came to; a datagram stands at the output's start.
-pub fn outcome(out: &mut [u8], to: usize, o: Outcome, datagram: &[u8]) -> usize {
-    match o {
-        Outcome::Kept => print::text(out, to, b"kept"),
-        Outcome::Out(len) => {
-            let n = print::text(out, to, b"out ");
-            let m = print::decimal(out, n, len as u64);
-            let k = print::put(out, m, b' ');
-            print::bytes(out, k, field::upto(datagram, len))
+pub fn outcome(out: &mut Out, answer: Result<Outcome, Refusal>, datagram: &[u8]) {
+    match answer {
+        Ok(Outcome::Kept) => out.text(b"kept"),
+        Ok(Outcome::Out(len)) => {
+            out.text(b"out ");
+            out.decimal(len as u64);
+            out.put(b' ');
+            out.bytes(upto(datagram, len));
         }
-        Outcome::Refused(e) => refused(out, to, e),
+        Err(e) => out.refused(e),
     }
 }
 
 // An address, with the byte that stands before it.
-fn address(out: &mut [u8], to: usize, before: u8, a: Node) -> usize {
-    let n = print::put(out, to, before);
-    if a.kind == 1 {
-        let m = print::put(out, n, b's');
-        return print::hex(out, m, a.number, 4);
+// A number for the kind, 0 for no PAN, and 1 for a live slot: theorem `table-one`, each 64-bit number is one table.
+fn address(out: &mut Out, before: u8, a: Node) {
+    out.put(before);
+    match a.kind {
+        1 => {
+            out.put(b's');
+            out.hex(a.number, 4);
+        }
+        2 => {
+            out.put(b'e');
+            out.hex(a.number, 16);
+        }
+        _ => out.put(b'a'),
     }
-    if a.kind == 2 {
-        let m = print::put(out, n, b'e');
-        return print::hex(out, m, a.number, 16);
-    }
-    print::put(out, n, b'a')
 }
 
 // Who sends: an address, and behind an @ its PAN, where it has one.
-fn source(out: &mut [u8], to: usize, s: Source) -> usize {
-    let node = s.node;
-    let n = address(out, to, b':', node);
-    if s.pan == 0 {
-        return n;
+fn source(out: &mut Out, s: Source) {
+    address(out, b':', s.node);
+    if s.pan != 0 {
+        out.put(b'@');
+        out.hex(s.pan - 1, 4);
     }
-    let m = print::put(out, n, b'@');
-    print::hex(out, m, s.pan - 1, 4)
 }
 
 // A number of 16 bits.
-fn word(out: &mut [u8], to: usize, x: u16) -> usize {
-    let n = print::put(out, to, b',');
-    print::hex(out, n, x as u64, 4)
+fn word(out: &mut Out, x: u16) {
+    out.put(b',');
+    out.hex(x as u64, 4);
 }
 
-fn key(out: &mut [u8], to: usize, k: Key) -> usize {
-    let src = k.src;
-    let dst = k.dst;
-    let n = source(out, to, src);
-    let m = address(out, n, b',', dst);
-    let l = word(out, m, k.size);
-    word(out, l, k.tag)
+fn key(out: &mut Out, k: Key) {
+    source(out, k.src);
+    address(out, b',', k.dst);
+    word(out, k.size);
+    word(out, k.tag);
 }
 
-// A slot, where it is open.
-fn slot(out: &mut [u8], to: usize, number: usize, s: Slot) -> usize {
-    if s.live != 1 {
-        return to;
-    }
-    let k = s.key;
-    let n = print::put(out, to, b' ');
-    let m = print::decimal(out, n, number as u64);
-    let l = key(out, m, k);
-    let j = print::put(out, l, b',');
-    print::decimal(out, j, s.since)
+// An open slot.
+fn slot(out: &mut Out, number: usize, s: Slot) {
+    out.put(b' ');
+    out.decimal(number as u64);
+    key(out, s.key);
+    out.put(b',');
+    out.decimal(s.since);
 }
 
 // The open slots, in order.
-pub fn slots(out: &mut [u8], to: usize, t: &[u64; WORDS]) -> usize {
-    let mut n = print::text(out, to, b" |");
-    let mut i: usize = 0;
-    while i < 8 {
+pub fn slots(out: &mut Out, t: &[u64; WORDS]) {
+    out.text(b" |");
+    for i in 0..8 {
         let s = words::slot_at(t, i);
-        n = slot(out, n, i, s);
-        i += 1;
+        if s.live == 1 {
+            slot(out, i, s);
+        }
     }
-    n
 }

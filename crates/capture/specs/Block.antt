@@ -3,10 +3,8 @@
 -- 509; 510 and 511 the FCS of what stands before.
 use Rattle.std.specs.Prelude.{ℕ, ◌+◌, ◌*◌, min, List, [], ◌∷◌, Bool, true, ◌&&◌, length, get_or, take, drop, eqb, leb, ltb}
 use Rattle.std.proofs.Math.Seq.{slice}
-use Rattle.octets.specs.Read.{Answer, is, refused, Read, Reader, choose, le16, le32}
-use Rattle.octets.specs.Refusal.{number_of}
+use Rattle.octets.specs.Read.{Answer, is, refused, Read, Reader, choose, le16, le32, value_or}
 use Rattle.capture.specs.Fcs.{fcs_of}
-use Rattle.capture.specs.declared.block.Judged.{Judged}
 
 -- a frame and the time, in ms, at which it was heard
 pub record Timed : Type 0 where
@@ -15,8 +13,7 @@ pub record Timed : Type 0 where
 
 -- the field at a place; 0 where the bytes end before it does
 abbrev pub value_of : Read ℕ → ℕ
-value_of (is p) = p.value
-value_of (refused n) = 0
+value_of m = value_or 0 m
 
 abbrev pub field : Reader ℕ → ℕ → List ℕ → ℕ
 field m at s = value_of (m s at)
@@ -79,7 +76,3 @@ good_block b s = eqb (length s) 512 && (good_head b s && (good_places s && good_
 -- the count of a good block; anything else is refused, 15
 unfoldable pub judged : ℕ → List ℕ → Answer ℕ
 judged b s = choose (good_block b s) (is (count_of s)) (refused 15)
-
-abbrev pub of_judged : Judged → Answer ℕ
-of_judged (Judged.Good n) = is n
-of_judged (Judged.Refused e) = refused (number_of e)

@@ -19,10 +19,8 @@ pub fn fcs(s: &[u8]) -> u16
 {
     let table = TABLE;
     let mut r: u16 = 0;
-    let mut i = 0;
-    while i < s.len() {
-        r = byte_in(&table, r, s[i]);
-        i += 1;
+    for &b in s {
+        r = byte_in(&table, r, b);
     }
     r
 }

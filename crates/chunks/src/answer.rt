@@ -1,69 +1,43 @@
-// The parts of an answer, each put at a place of the output; the place after it is answered.
+// The parts of an answer.
+// By functions and not by `Display`: the types are of other crates, and the form is this program's (tests/README.md).
 use capture::block::{BLOCK, count, frame, time};
 use feed::Found;
 use octets::refusal::Refusal;
-use text::{field, print};
+use text::field::part;
+use text::out::Out;
 
-pub fn ok(out: &mut [u8], to: usize) -> usize {
-    print::text(out, to, b"ok")
+// The frame in place k with its time.
+fn timed(out: &mut Out, block: &[u8], k: usize) {
+    out.put(b' ');
+    out.decimal(time(block, k) as u64);
+    out.put(b':');
+    out.bytes_or_dash(frame(block, k));
 }
 
-// The bytes, '-' for none.
-fn hex_bytes(out: &mut [u8], to: usize, s: &[u8]) -> usize {
-    if s.len() == 0 {
-        return print::put(out, to, b'-');
+// The frames of the first n blocks, in order: a call completes two at most.
+// A room and a count, as `feed` answers them (`Fed.blocks`, `Found::Blocks`): no heap.
+fn frames(out: &mut Out, blocks: &[u8], n: usize) {
+    for i in 0..n.min(2) {
+        let block = part(blocks, i * BLOCK, BLOCK);
+        for k in 0..count(block).min(3) {
+            timed(out, block, k);
+        }
     }
-    print::bytes(out, to, s)
-}
-
-// The frame in place k with its time, where the block has one.
-fn timed(out: &mut [u8], to: usize, block: &[u8], k: usize) -> usize {
-    if count(block) <= k {
-        return to;
-    }
-    let n = print::put(out, to, b' ');
-    let m = print::decimal(out, n, time(block, k) as u64);
-    let l = print::put(out, m, b':');
-    hex_bytes(out, l, frame(block, k))
-}
-
-// The frames of a block, in order.
-fn frames(out: &mut [u8], to: usize, block: &[u8]) -> usize {
-    let n = timed(out, to, block, 0);
-    let m = timed(out, n, block, 1);
-    timed(out, m, block, 2)
-}
-
-// The frames of the first n blocks, at most two.
-fn all_frames(out: &mut [u8], to: usize, blocks: &[u8], n: usize) -> usize {
-    if n == 0 {
-        return to;
-    }
-    let m = frames(out, to, field::part(blocks, 0, BLOCK));
-    if n == 1 {
-        return m;
-    }
-    frames(out, m, field::part(blocks, BLOCK, BLOCK))
-}
-
-fn refused(out: &mut [u8], to: usize, e: Refusal) -> usize {
-    let n = print::text(out, to, b"no ");
-    print::decimal(out, n, e.number() as u64)
 }
 
 // What a call found; the blocks that it completed stand one behind the other.
-pub fn found(out: &mut [u8], to: usize, f: Found, blocks: &[u8]) -> usize {
-    match f {
-        Found::Blocks(n) => {
-            let m = ok(out, to);
-            all_frames(out, m, blocks, n)
+pub fn found(out: &mut Out, found: Result<Found, Refusal>, blocks: &[u8]) {
+    match found {
+        Ok(Found::Blocks(n)) => {
+            out.text(b"ok");
+            frames(out, blocks, n);
         }
-        Found::Bad(n, block) => {
-            let m = ok(out, to);
-            let l = all_frames(out, m, blocks, n);
-            let k = print::text(out, l, b" bad ");
-            print::decimal(out, k, block)
+        Ok(Found::Bad(n, block)) => {
+            out.text(b"ok");
+            frames(out, blocks, n);
+            out.text(b" bad ");
+            out.decimal(block);
         }
-        Found::Refused(e) => refused(out, to, e),
+        Err(e) => out.refused(e),
     }
 }

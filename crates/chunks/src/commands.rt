@@ -1,77 +1,64 @@
 // What the lines do.
 use super::answer;
 use feed::{Fed, Reader, chunk, end};
-use text::line::find;
-use text::{field, print};
+use text::field::{Fields, upto};
+use text::input::{Answers, ROOM};
+use text::out::Out;
 
-// The reader after a line, and the place behind its answer.
-#[derive(Clone, Copy)]
-pub struct Done {
-    pub reader: Reader,
-    pub to: usize,
-}
-
-// What a call found, and the reader that it leaves.
-fn told(fed: Fed, out: &mut [u8], to: usize) -> Done {
-    let reader = fed.reader;
-    let blocks = fed.blocks;
-    let found = fed.found;
-    Done {
-        reader,
-        to: answer::found(out, to, found, &blocks),
-    }
-}
-
-fn bad(reader: Reader, out: &mut [u8], to: usize) -> Done {
-    Done {
-        reader,
-        to: print::text(out, to, b"bad"),
-    }
-}
-
-// `chunk HEX`: the bytes go to the reader.
-fn take(
-    line: &[u8],
-    from: usize,
+// The reader between two lines, and room for the bytes of a chunk.
+// No heap: a room of a fixed size.
+#[derive(Drop)]
+pub struct Session {
     reader: Reader,
-    scratch: &mut [u8],
-    out: &mut [u8],
-    to: usize,
-) -> Done {
-    let b = field::last_bytes(line, from, scratch);
-    if !field::ended(line, b.next) {
-        return bad(reader, out, to);
-    }
-    told(chunk(reader, field::upto(scratch, b.count)), out, to)
+    scratch: [u8; ROOM],
 }
 
-// Puts the answer to a line.
-pub fn answer_line(
-    line: &[u8],
-    reader: Reader,
-    scratch: &mut [u8],
-    out: &mut [u8],
-    to: usize,
-) -> Done {
-    if field::at(line, 0) == b'#' {
-        return Done {
+impl Session {
+    pub fn new() -> Session {
+        let reader = Reader::new();
+        Session {
             reader,
-            to: print::text(out, to, line),
-        };
+            scratch: [0; ROOM],
+        }
     }
-    let name = field::upto(line, find(line, 0, b' '));
-    if name == b"chunk".as_slice() {
-        return take(line, name.len() + 1, reader, scratch, out, to);
+
+    // What a call found; the reader that it leaves is kept.
+    fn told(&mut self, fed: Fed, out: &mut Out) {
+        let blocks = fed.blocks;
+        answer::found(out, fed.found, &blocks);
+        self.reader = fed.reader;
     }
-    if line == b"end".as_slice() {
-        return told(end(reader), out, to);
+
+    // `chunk HEX`: the bytes go to the reader.
+    fn take(&mut self, mut fields: Fields<'_>, out: &mut Out) -> Option<()> {
+        let n = fields.last_bytes(&mut self.scratch)?;
+        fields.end()?;
+        let fed = chunk(self.reader, upto(&self.scratch, n));
+        self.told(fed, out);
+        Some(())
     }
-    if line == b"new".as_slice() {
-        let begun = Reader::new();
-        return Done {
-            reader: begun,
-            to: answer::ok(out, to),
-        };
+}
+
+impl Answers for Session {
+    // Six frames of 127 bytes in hexadecimal with their times, and a few words.
+    const LONGEST: usize = 2048;
+
+    fn answer(&mut self, name: &[u8], fields: Fields<'_>, out: &mut Out) -> Option<()> {
+        match name {
+            b"chunk" => self.take(fields, out),
+            b"end" => {
+                fields.end()?;
+                let fed = end(self.reader);
+                self.told(fed, out);
+                Some(())
+            }
+            b"new" => {
+                fields.end()?;
+                self.reader = Reader::new();
+                out.text(b"ok");
+                Some(())
+            }
+            _ => None,
+        }
     }
-    bad(reader, out, to)
 }

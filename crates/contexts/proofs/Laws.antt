@@ -3,11 +3,10 @@ use Prim.Native.Nat.{ℕ, zero, suc, ◌+◌, ◌-◌, ◌*◌, ◌≤◌, ◌<�
 use native.Mathlib.Nat.{not-suc-le-zero, le_of_suc-le-suc, sub-zero}
 use native.Mathlib.Omega.{arith}
 use mathlib.Core.Path.{◌≡◌, refl, sym, ap, ◌∙◌}
-use mathlib.Core.Bool.{true, false}
 use mathlib.Core.List.{List, [], ◌∷◌, ◌++◌, append_assoc, append-nil}
 use lib.ListN.{length, get_or, take, drop, length-append, length-replicate}
 use lib.Seq.{take_at, take_all, length-take-le}
-use borrow.Author.Tests.{lt-ltb, le-ltb, le-leb, lt-leb}
+use borrow.Author.Tests.{lt-ltb, le-ltb, le-leb}
 use Rattle.octets.specs.Write.{put}
 use Rattle.iphc.specs.Context.{context_at}
 use Rattle.iphc.specs.declared.context.AddressContext.{AddressContext}
@@ -35,17 +34,10 @@ pub length-eight : (c : List ℕ) → length (eight c) ≡ 8
 unfolding eight
 length-eight c = refl
 
-pub append-put : (f : Flat) (c b : List ℕ) → length c ≡ 8 → f.len ≤ 120 → b ≡ put f.len (take 8 (drop 0 c)) f.bytes → record { bytes = b; len = f.len + 8 } ≡ appended true c f
+-- a context's bytes, put behind those laid so far
+pub append_put : (f : Flat) (c b : List ℕ) → length c ≡ 8 → f.len ≤ 120 → b ≡ put f.len (take 8 (drop 0 c)) f.bytes → record { bytes = b; len = f.len + 8 } ≡ appended c f
 unfolding appended
-append-put f c b e h p = rw (le-leb f.len 120 h) (ap (λ z. record { bytes = z; len = f.len + 8 }) (p ∙ ap (λ z. put f.len z f.bytes) (take_all 8 c (omega (arith, e)) ∙ eight_is c e)))
-
-pub append-full : (f : Flat) (c : List ℕ) → 120 < f.len → f ≡ appended true c f
-unfolding appended
-append-full f c h = rw (lt-leb f.len 120 h) refl
-
-pub append-none : (f : Flat) (c : List ℕ) → f ≡ appended false c f
-unfolding appended
-append-none f c = refl
+append_put f c b e h p = rw (le-leb f.len 120 h) (ap (λ z. record { bytes = z; len = f.len + 8 }) (p ∙ ap (λ z. put f.len z f.bytes) (take_all 8 c (omega (arith, e)) ∙ eight_is c e)))
 
 -- ---- context after context
 flat-more : (cs : List AddressContext) (k : ℕ) → k < length cs → flat (take (suc k) cs) ≡ flat (take k cs) ++ eight (get_or cs k none).0
@@ -66,6 +58,16 @@ record Laid (cs : List AddressContext) (k : ℕ) (f : Flat) : Type 0 where
   size : f.len ≡ 8 * min k (length cs)
   are : take f.len f.bytes ≡ flat (take k cs)
 
+laid-past : (cs : List AddressContext) (k : ℕ) (f : Flat) → length cs ≤ k → Laid cs k f → Laid cs (suc k) (with_at cs k f)
+unfolding with_at appended
+laid-past cs k f w l =
+    rw (le-ltb k (length cs) w)
+    (record {
+      room = l.room;
+      size = omega (arith, l.size, w);
+      are = l.are ∙ ap flat (take_all k cs w ∙ sym (take_all (suc k) cs (omega (arith, w))));
+    })
+
 laid-within : (cs : List AddressContext) (k : ℕ) (f : Flat) → k < 16 → k < length cs → Laid cs k f → Laid cs (suc k) (with_at cs k f)
 unfolding with_at appended
 laid-within cs k f h w l =
@@ -77,16 +79,6 @@ laid-within cs k f h w l =
       are = more f (get_or cs k none).0 l.room z ∙ ap (λ x. x ++ eight (get_or cs k none).0) l.are ∙ sym (flat-more cs k w);
     })
 
-laid-past : (cs : List AddressContext) (k : ℕ) (f : Flat) → length cs ≤ k → Laid cs k f → Laid cs (suc k) (with_at cs k f)
-unfolding with_at appended
-laid-past cs k f w l =
-    rw (le-ltb k (length cs) w)
-    (record {
-      room = l.room;
-      size = omega (arith, l.size, w);
-      are = l.are ∙ ap flat (take_all k cs w ∙ sym (take_all (suc k) cs (omega (arith, w))));
-    })
-
 laid : (cs : List AddressContext) (k : ℕ) → k ≤ 16 → Laid cs k (laid_to cs k)
 unfolding laid_to empty flat
 laid cs zero h = record { room = length-replicate {A = ℕ} 128 0; size = omega arith; are = refl }
@@ -96,9 +88,9 @@ pub laid-listed : (cs : List AddressContext) → bytes_of (laid_to cs 16) ≡ li
 unfolding bytes_of listed
 laid-listed cs = (laid cs 16 (omega arith)).are
 
-pub bytes-of : (f : Flat) (n : ℕ) → length f.bytes ≡ 128 → n ≡ min f.len 128 → take (n - 0) f.bytes ≡ bytes_of f
+pub bytes_of_min : (f : Flat) (n : ℕ) → length f.bytes ≡ 128 → n ≡ min f.len 128 → take (n - 0) f.bytes ≡ bytes_of f
 unfolding bytes_of
-bytes-of f n r e =
+bytes_of_min f n r e =
     ap (λ z. take z f.bytes) (sub-zero n)
     ∙ by_order f.len 128 (λ h. let q : n ≡ f.len = omega (arith, e, h) in ap (λ z. take z f.bytes) q)
     (λ h. take_all n f.bytes (omega (arith, r, e, h)) ∙ sym (take_all f.len f.bytes (omega (arith, r, h))))
@@ -121,3 +113,5 @@ sixteen cs id h =
     by_order (length cs) 16 (λ w. ap (λ z. context_at (flat z) id) (take_all 16 cs w))
     (λ w. let n : id * 8 + 8 ≤ length (flat (take 16 cs)) = omega (arith, h, length-flat (take 16 cs), length-take-le 16 cs (omega (arith, w))) in
     sym (context-front (flat (take 16 cs)) (flat (drop 16 cs)) id n) ∙ ap (λ z. context_at z id) (flat-apart 16 cs))
+
+pub ruleset slice_laws = (laid-listed)

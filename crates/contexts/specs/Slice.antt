@@ -1,5 +1,5 @@
 -- A slice of address contexts, and the flat bytes that it means.
-use Rattle.std.specs.Prelude.{ℕ, zero, suc, ◌+◌, Bool, ◌&&◌, List, [], ◌∷◌, ◌++◌, length, get_or, take, replicate, ltb, leb}
+use Rattle.std.specs.Prelude.{ℕ, zero, suc, ◌+◌, List, [], ◌∷◌, ◌++◌, length, get_or, take, replicate, ltb, leb}
 use Rattle.octets.specs.Read.{choose}
 use Rattle.octets.specs.Write.{put}
 use Rattle.iphc.specs.declared.context.AddressContext.{AddressContext}
@@ -21,15 +21,16 @@ listed cs = flat (take 16 cs)
 unfoldable pub empty : Flat
 empty = record { bytes = replicate 128 0; len = 0 }
 
-unfoldable pub appended : Bool → List ℕ → Flat → Flat
-appended found c f = choose (found && leb f.len 120) (record { bytes = put f.len (eight c) f.bytes; len = f.len + 8 }) f
+-- one more context, while there is room
+unfoldable pub appended : List ℕ → Flat → Flat
+appended c f = choose (leb f.len 120) (record { bytes = put f.len (eight c) f.bytes; len = f.len + 8 }) f
 
 abbrev pub none : AddressContext
 none = record { 0 = replicate 8 0 }
 
 -- with context i, where the list is long enough to hold it
 unfoldable pub with_at : List AddressContext → ℕ → Flat → Flat
-with_at cs i f = appended (ltb i (length cs)) (get_or cs i none).0 f
+with_at cs i f = choose (ltb i (length cs)) (appended (get_or cs i none).0 f) f
 
 -- the first n
 unfoldable pub laid_to : List AddressContext → ℕ → Flat

@@ -1,91 +1,51 @@
 // What a line says beside the datagram, with the fields of `text::field`.
 use cutting::Link;
 use ieee802154::{Address, Pan};
-use text::field;
-use text::field::{NONE, behind, number};
-
-#[derive(Clone, Copy)]
-struct AddressText {
-    value: Address,
-    next: usize,
-}
-
-#[derive(Clone, Copy)]
-pub struct LinkText {
-    pub value: Link,
-    pub next: usize,
-}
+use text::field::Fields;
 
 fn low16(x: u64) -> u16 {
     (x % 0x1_0000) as u16
 }
 
-fn short(line: &[u8], from: usize) -> AddressText {
-    let n = number(line, from, 4);
-    AddressText {
-        value: Address::Short(low16(n.value)),
-        next: n.next,
-    }
-}
-
-fn extended(line: &[u8], from: usize) -> AddressText {
-    let n = number(line, from, 16);
-    AddressText {
-        value: Address::Extended(n.value),
-        next: n.next,
-    }
+// A number of 16 bits: 4 digits.
+// Also in calls and replay: one line, and a function shared by all would be as long.
+fn word(fields: &mut Fields<'_>) -> Option<u16> {
+    Some(low16(fields.number(4)?))
 }
 
 // `s` and 4 digits, `e` and 16, or `a`.
-fn address(line: &[u8], from: usize) -> AddressText {
-    if line.len() <= from {
-        return AddressText {
-            value: Address::Absent,
-            next: NONE,
-        };
-    }
-    let next = from + 1;
-    match line[from] {
-        b's' => short(line, next),
-        b'e' => extended(line, next),
-        b'a' => AddressText {
-            value: Address::Absent,
-            next: behind(line, next),
-        },
-        _ => AddressText {
-            value: Address::Absent,
-            next: NONE,
-        },
+// Also in calls: `text` knows no link-layer address (crates.txt), and the function is a dozen lines.
+fn address(fields: &mut Fields<'_>) -> Option<Address> {
+    match fields.letter()? {
+        b's' => Some(Address::Short(word(fields)?)),
+        b'e' => Some(Address::Extended(fields.number(16)?)),
+        b'a' => {
+            fields.close()?;
+            Some(Address::Absent)
+        }
+        _ => None,
     }
 }
 
 // PAN SRC DST SEQ TAG LIMIT.
-pub fn link(line: &[u8], from: usize) -> LinkText {
-    let pan = number(line, from, 4);
-    let src = address(line, pan.next);
-    let dst = address(line, src.next);
-    let sequence = number(line, dst.next, 2);
-    let tag = number(line, sequence.next, 4);
-    let limit = field::decimal(line, tag.next);
-    let src_addr = src.value;
-    let dst_addr = dst.value;
-    LinkText {
-        value: Link {
-            pan: Pan(low16(pan.value)),
-            src: src_addr,
-            dst: dst_addr,
-            sequence: (sequence.value % 256) as u8,
-            tag: low16(tag.value),
-            limit: limit.value as usize,
-        },
-        next: limit.next,
-    }
+pub fn link(fields: &mut Fields<'_>) -> Option<Link> {
+    let pan = word(fields)?;
+    let src = address(fields)?;
+    let dst = address(fields)?;
+    let sequence = fields.number(2)?;
+    let tag = word(fields)?;
+    let limit = fields.decimal()?;
+    Some(Link {
+        pan: Pan(pan),
+        src,
+        dst,
+        sequence: (sequence % 256) as u8,
+        tag,
+        limit: limit as usize,
+    })
 }
 
 // A frame's number. None has 65,535 or more before it, so that all these are one.
 pub fn place(k: u64) -> u16 {
-    if k < 0xffff {
-        return k as u16;
-    }
-    0xffff
+    k.min(0xffff) as u16
 }

@@ -13,10 +13,11 @@ use Rattle.octets.specs.Write.{byte_bytes, be16_bytes, be32_bytes, be64_bytes}
 use Rattle.octets.proofs.Steps.{and-true}
 use Rattle.expand.specs.Full as Full
 use Rattle.expand.specs.Plain as Plain
-use Rattle.expand.specs.Plain.{UdpField}
+use Rattle.std.specs.Prelude.{Option, Some, None}
+use Rattle.sixlowpan.specs.declared.nhc.UdpNhcRepr.{UdpNhcRepr}
 use Rattle.expand.proofs.SumLaws.{Bytes}
 use Rattle.cutting.specs.Fields.{or_zero, is_ours, is_udp}
-use Rattle.cutting.specs.Head.{next_of, ip_of, udp_of, covers}
+use Rattle.cutting.specs.Head.{next_of, ip_of, udp_of, udp_field, covers}
 use Rattle.cutting.specs.declared.link.Link.{Link}
 
 -- n bytes from a place on
@@ -104,11 +105,8 @@ next-go d true e = rw e (sym (udp-facts d e).next)
 next-go d false e = rw e refl
 
 -- ---- the headers in full
-no-udp : (n : ℕ) → Plain.udp_bytes UdpField.None n ≡ []
+no-udp : (n : ℕ) → Plain.udp_bytes None n ≡ []
 no-udp n = refl
-
-abbrev pub udp_field : List ℕ → UdpField
-udp_field d = choose (is_udp d) (UdpField.Some (udp_of d)) UdpField.None
 
 module _ (l : Link) (d : List ℕ) (w : Bytes d) (o : Ours d) (h : 40 ≤ length d) where
   front-back : be32_bytes (6 * 2 ^ 28) ++ (be16_bytes (length d - 40) ++ (byte_bytes (Plain.next_of (next_of d)) ++ byte_bytes (or_zero (byte d 7)))) ≡ slice d 0 8
@@ -129,7 +127,7 @@ module _ (l : Link) (d : List ℕ) (w : Bytes d) (o : Ours d) (h : 40 ≤ length
   unfolding Full.ipv6_with Full.front_with Full.both_bytes ip_of
   ipv6-back = join d _ _ 0 8 32 front-back both-back
 
-  udp-back : Udp d → Plain.udp_bytes (UdpField.Some (udp_of d)) (length d - 40) ≡ slice d 40 8
+  udp-back : Udp d → Plain.udp_bytes (Some (udp_of d)) (length d - 40) ≡ slice d 40 8
   unfolding Full.udp_full udp_of
   udp-back u =
       let n : 48 ≤ length d = u.long in
@@ -143,7 +141,7 @@ module _ (l : Link) (d : List ℕ) (w : Bytes d) (o : Ours d) (h : 40 ≤ length
   both_go true e = rw e (join d _ _ 0 40 8 ipv6-back (udp-back (udp-facts d e)))
   both_go false e = rw e (none-go (ipv6-back))
     where
-      none-go : Plain.ipv6_bytes (ip_of l d) (length d - 40) ≡ slice d 0 40 → Plain.ipv6_bytes (ip_of l d) (length d - 40) ++ Plain.udp_bytes UdpField.None (length d - 40) ≡ take 40 d
+      none-go : Plain.ipv6_bytes (ip_of l d) (length d - 40) ≡ slice d 0 40 → Plain.ipv6_bytes (ip_of l d) (length d - 40) ++ Plain.udp_bytes None (length d - 40) ≡ take 40 d
       none-go p = ap (λ z. Plain.ipv6_bytes (ip_of l d) (length d - 40) ++ z) (no-udp (length d - 40)) ∙ append-nil (Plain.ipv6_bytes (ip_of l d) (length d - 40)) ∙ p
 
   -- the compressed headers stand for the first bytes of the datagram

@@ -14,9 +14,9 @@ use Rattle.octets.proofs.Spans.{not-refused}
 use Rattle.cutting.specs.Fields.{is_ours}
 use Rattle.cutting.specs.Head.{mac_length, head_length, covers}
 use Rattle.cutting.specs.Pieces.{units, later_pieces, whole_length, first_part, later_room, pieces, nth}
-use Rattle.cutting.specs.Cut.{plan_of, frame_of, in_range, has_both, cut, cut_frame, cut_count, answered}
+use Rattle.cutting.specs.Cut.{plan_of, frame_of, in_range, Ready, has_both, cut, cut_frame, cut_count, answered}
 use Rattle.cutting.specs.declared.link.Link.{Link}
-use Rattle.cutting.proofs.WriteLaws.{Ready, in-range}
+use Rattle.cutting.proofs.WriteLaws.{in-range}
 use Rattle.cutting.proofs.Tiling.{Each, frames-within}
 
 -- ---- what a cutting says: nothing was refused

@@ -1,47 +1,13 @@
--- What a read that was taken apart, and a test that was made, say of a field of the datagram. `search field-tests` proves from these a
--- `returns` of a function that tests fields as its specification does.
+-- A field of eight bytes, of what its bytes are.
 use Prim.Native.Nat.{ℕ, ◌+◌, ◌*◌, ◌^◌, ◌≤◌, ◌<◌}
 use native.Mathlib.Omega.{arith}
 use mathlib.Core.List.{List}
-use mathlib.Core.Bool.{Bool, true, false, ◌&&◌}
-use mathlib.Core.Path.{◌≡◌, refl, sym, ap, ◌∙◌}
-use lib.Dec.{eqb, leb}
+use mathlib.Core.Path.{◌≡◌, refl, sym, ap}
 use lib.ListN.{length, get_or}
-use borrow.Author.Tests.{le-leb, lt-leb, eq-eqb, ne_eqb, lt-ltb}
-use Rattle.octets.specs.Read.{Read, got, byte, be16, be32, be64}
+use borrow.Author.Tests.{lt-ltb}
+use Rattle.octets.specs.Read.{got, byte, be16, be32, be64}
 use Rattle.octets.proofs.Ends.{full-be64}
 use Rattle.cutting.specs.Fields.{or_zero}
-
--- over the answer's type X, its meaning f and the case z that a match found
-pub field_is : {X : Type 0} (f : X → Read ℕ) (y z : X) (m : Read ℕ) → f y ≡ m → y ≡ z → or_zero (f z) ≡ or_zero m
-field_is f y z m p q = ap or_zero (ap f (sym q) ∙ p)
-
--- ---- one test after the other
-pub and-le : {r : Bool} (a b : ℕ) (t : Bool) → a ≤ b → r ≡ t → r ≡ (leb a b && t)
-and-le a b t h e = rw (le-leb a b h) e
-
-pub and-gt : (a b : ℕ) (t : Bool) → b < a → false ≡ (leb a b && t)
-and-gt a b t h = rw (lt-leb a b h) refl
-
--- of a value that a call gave
-pub and-eq-told : {r : Bool} {x : ℕ} (a b : ℕ) (t : Bool) → x ≡ a → x ≡ b → r ≡ t → r ≡ (eqb a b && t)
-and-eq-told a b t p h e = rw (← p, eq-eqb _ b h) e
-
-pub and-ne-told : {x : ℕ} (a b : ℕ) (t : Bool) → x ≡ a → (x ≡ b → ⊥) → eqb x b ≡ (eqb a b && t)
-and-ne-told a b t p h = rw (← p, ne_eqb _ b h) refl
-
-pub sum_told : (x a n : ℕ) → x ≡ a → eqb (x + 40) n ≡ eqb (a + 40) n
-sum_told x a n p = ap (λ z. eqb (z + 40) n) p
-
-pub and-told : {r b : Bool} (s t : Bool) → b ≡ s → b ≡ true → r ≡ t → r ≡ (s && t)
-and-told s t p h e = rw (← p, h) e
-
-pub and-told-not : {b : Bool} (s t : Bool) → b ≡ s → b ≡ false → b ≡ (s && t)
-and-told-not s t p h = rw (← p, h) refl
-
-pub ruleset field-tests = (and-le, and-gt, and-eq-told, and-ne-told, sum_told)
-
-pub ruleset both-tests = (and-told, and-told-not)
 
 -- ---- eight bytes, of two halves
 module _ (d : List ℕ) where
@@ -71,3 +37,5 @@ module _ (d : List ℕ) where
       let f : at + 4 + 2 ≡ at + 6 = omega arith in
       let g : at + 4 + 3 ≡ at + 7 = omega arith in
       rw (be32-there at (omega arith), be32-there (at + 4) (omega arith), e, f, g) (omega arith)
+
+pub ruleset long_told = (long-short, long-there)

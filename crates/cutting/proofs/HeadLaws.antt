@@ -1,4 +1,5 @@
 -- The compressed headers: what calls gave of them, and how long they are.
+use Rattle.std.specs.Prelude.{Option, Some, None}
 use Prim.Native.Nat.{ℕ, ◌+◌, ◌-◌, ◌≤◌}
 use native.Mathlib.Nat.{lt_of_not-le}
 use native.Mathlib.Decide.{dec_le}
@@ -10,48 +11,31 @@ use lib.Dec.{eqb}
 use lib.ListN.{length, take, drop, length-append, length-drop, drop_of_length-le}
 use lib.Seq.{length-take-le, drop-drop}
 use borrow.Author.Tests.{le-leb, lt-leb}
-use Rattle.octets.specs.Read.{choose, byte, be16}
+use Rattle.octets.specs.Read.{choose}
 use Rattle.octets.specs.Write.{put, over}
 use Rattle.octets.specs.Ipv6.{ip}
-use Rattle.octets.specs.declared.field.ByteField.{ByteField}
-use Rattle.octets.specs.declared.field.WordField.{WordField}
 use Rattle.octets.specs.declared.ipv6.Ipv6Addr.{Ipv6Addr}
 use Rattle.octets.proofs.Puts.{more, put-nil, put_front}
 use Rattle.expand.proofs.CopyLaws.{put-inside}
-use Rattle.ieee802154.specs.declared.addr.AddressField.{AddressField}
 use Rattle.ieee802154.specs.Mac as Mac
 use Rattle.ieee802154.specs.declared.header.Repr as MacHeader
 use Rattle.ieee802154.proofs.WriteSteps as MacSteps
 use Rattle.sixlowpan.specs.NhcUdp.{udp_length, udp_nhc_bytes, udp_form, elided_bit}
 use Rattle.sixlowpan.specs.declared.nhc.UdpNhcRepr.{UdpNhcRepr}
-use Rattle.sixlowpan.specs.declared.protocol.NextHeader.{NextHeader}
-use Rattle.sixlowpan.specs.declared.protocol.NextHeader.TheVariants.{Uncompressed}
 use Rattle.sixlowpan.proofs.NhcPuts.{length-udp}
 use Rattle.iphc.specs.Emit as Iphc
-use Rattle.iphc.specs.declared.label.LabelField.{LabelField}
 use Rattle.iphc.specs.declared.header.Repr.{Repr}
 use Rattle.iphc.proofs.Puts as IphcPuts
 use Rattle.iphc.proofs.Lengths.{at-most-36}
-use Rattle.cutting.specs.Fields.{or_zero, is_udp}
-use Rattle.cutting.specs.Head.{mac_of, mac_length, mac_bytes, next_of, ip_of, udp_of, udp_part, udp_part_length, head_bytes, head_length, covers}
+use Rattle.cutting.specs.Fields.{is_udp}
+use Rattle.cutting.specs.Head.{mac_of, mac_length, mac_bytes, ip_of, udp_of, udp_field, udp_bytes, udp_size, covers_of, udp_part, udp_part_length, head_bytes, head_length, covers}
 use Rattle.cutting.specs.Head.{src_of, dst_of, head_of}
 use Rattle.cutting.specs.declared.link.Link.{Link}
 use Rattle.cutting.specs.declared.head.Head.{Head}
 
 -- ---- the headers, of what calls gave
-pub next-told : (x y : ℕ) → x ≡ y → Uncompressed (record { 0 = x }) ≡ Uncompressed (record { 0 = y })
-next-told x y p = ap (λ z. Uncompressed (record { 0 = z })) p
-
 pub address-told : (p i q j : ℕ) → p ≡ q → i ≡ j → ip p i ≡ ip q j
 address-told p i q j e f = rw (e, f) refl
-
-pub ip-told : (l : Link) (d : List ℕ) (s t : Ipv6Addr) (n : NextHeader) (h : ℕ) → s ≡ src_of d → t ≡ dst_of d → n ≡ next_of d → h ≡ or_zero (byte d 7) → ◌≡◌ {A = Repr} (record { src_addr = s; ll_src_addr = AddressField.Some l.src; dst_addr = t; ll_dst_addr = AddressField.Some l.dst; next_header = n; hop_limit = h; ecn = ByteField.None; dscp = ByteField.None; flow_label = LabelField.None }) (ip_of l d)
-unfolding ip_of
-ip-told l d s t n h e1 e2 e3 e4 = rw (e1, e2, e3, e4) refl
-
-pub udp-told : (d : List ℕ) (s t c : ℕ) → s ≡ or_zero (be16 d 40) → t ≡ or_zero (be16 d 42) → c ≡ or_zero (be16 d 46) → ◌≡◌ {A = UdpNhcRepr} (record { src_port = s; dst_port = t; checksum = WordField.Some c }) (udp_of d)
-unfolding udp_of
-udp-told d s t c e1 e2 e3 = rw (e1, e2, e3) refl
 
 -- ---- lengths
 width-most : (t s r : Bool) → choose t 1 (choose s 1 2 + choose r 1 2) ≤ 4
@@ -94,25 +78,34 @@ pub length-head : (l : Link) (d : List ℕ) → length (head_bytes l d) ≡ head
 unfolding head_bytes head_length
 length-head l d = omega (arith, length-append (Iphc.bytes_of (ip_of l d)) (udp_part d), IphcPuts.length-bytes (ip_of l d), length-udp-part d)
 
+-- ---- the UDP header, where it is compressed
+field-size : (t : Bool) (h : UdpNhcRepr) → udp_size (choose t (Some h) None) ≡ choose t (udp_length h) 0
+field-size true h = refl
+field-size false h = refl
+
+field-bytes : (t : Bool) (h : UdpNhcRepr) → udp_bytes (choose t (Some h) None) ≡ choose t (udp_nhc_bytes h) []
+field-bytes true h = refl
+field-bytes false h = refl
+
+field-covers : (t : Bool) (h : UdpNhcRepr) → covers_of (choose t (Some h) None) ≡ choose t 48 40
+field-covers true h = refl
+field-covers false h = refl
+
+module _ (d : List ℕ) (u : Option UdpNhcRepr) (e : u ≡ udp_field d) where
+  pub size-told : udp_size u ≡ udp_part_length d
+  unfolding udp_part_length
+  size-told = ap udp_size e ∙ field-size (is_udp d) (udp_of d)
+
+  pub bytes-told : udp_bytes u ≡ udp_part d
+  unfolding udp_part
+  bytes-told = ap udp_bytes e ∙ field-bytes (is_udp d) (udp_of d)
+
+  pub covers-told : covers_of u ≡ covers d
+  unfolding covers
+  covers-told = ap covers_of e ∙ field-covers (is_udp d) (udp_of d)
+
 -- ---- what calls gave of them
-module _ (d : List ℕ) (b : Bool) where
-  pub udp-len-there : (h : UdpNhcRepr) (n : ℕ) → b ≡ is_udp d → b ≡ true → n ≡ udp_length h → h ≡ udp_of d → (n ≡ udp_part_length d) × (n ≤ 7)
-  unfolding udp_part_length
-  udp-len-there h n p q e f = rw (← p, q) (e ∙ ap udp_length f, omega (arith, udp-most h))
-
-  pub udp-len-none : b ≡ is_udp d → b ≡ false → (0 ≡ udp_part_length d) × (0 ≤ 7)
-  unfolding udp_part_length
-  udp-len-none p q = rw (← p, q) (refl, omega arith)
-
-  pub put-udp-there : (h : UdpNhcRepr) (at : ℕ) (l out : List ℕ) → b ≡ is_udp d → b ≡ true → h ≡ udp_of d → out ≡ put at (udp_nhc_bytes h) l → out ≡ put at (udp_part d) l
-  unfolding udp_part
-  put-udp-there h at l out p q e f = rw (← p, q) (f ∙ ap (λ z. put at (udp_nhc_bytes z) l) e)
-
-  pub put-udp-none : (at : ℕ) (l : List ℕ) → b ≡ is_udp d → b ≡ false → l ≡ put at (udp_part d) l
-  unfolding udp_part
-  put-udp-none at l p q = rw (← p, q) (put-nil at l)
-
-pub head-told : (l : Link) (d : List ℕ) (s t : Ipv6Addr) (u : Bool) (h : Repr) (n m : ℕ) → s ≡ src_of d → t ≡ dst_of d → u ≡ is_udp d → h ≡ ip_of l d → n ≡ Iphc.length_of h → m ≡ udp_part_length d → ◌≡◌ {A = Head} (record { src = s; dst = t; udp = u; len = n + m }) (head_of l d)
+pub head-told : (l : Link) (d : List ℕ) (s t : Ipv6Addr) (u : Option UdpNhcRepr) (h : Repr) (n m : ℕ) → s ≡ src_of d → t ≡ dst_of d → u ≡ udp_field d → h ≡ ip_of l d → n ≡ Iphc.length_of h → m ≡ udp_part_length d → ◌≡◌ {A = Head} (record { src = s; dst = t; udp = u; len = n + m }) (head_of l d)
 unfolding head_of head_length
 head-told l d s t u h n m e1 e2 e3 e4 e5 e6 = rw (e5, e4, e6, e1, e2, e3) refl
 
@@ -122,7 +115,7 @@ module _ (l : Link) (d : List ℕ) (h : Head) (e : h ≡ head_of l d) where
   unfolding head_of
   head-addresses = (ap (λ z. z.src) e, ap (λ z. z.dst) e)
 
-  pub head-udp : h.udp ≡ is_udp d
+  pub head-udp : h.udp ≡ udp_field d
   unfolding head_of
   head-udp = ap (λ z. z.udp) e
 
@@ -130,13 +123,16 @@ module _ (l : Link) (d : List ℕ) (h : Head) (e : h ≡ head_of l d) where
   unfolding head_of
   head-len = ap (λ z. z.len) e
 
-  pub head-sum : (r : Repr) (n : ℕ) → r ≡ ip_of l d → n ≡ udp_part_length d → h.len ≡ Iphc.length_of r + n
+  pub head-sum : (r : Repr) (n : ℕ) → r ≡ ip_of l d → n ≡ udp_size h.udp → h.len ≡ Iphc.length_of r + n
   unfolding head_length
-  head-sum r n p q = head-len ∙ rw (← q, ← p) refl
+  head-sum r n p q = let k : n ≡ udp_part_length d = q ∙ size-told d h.udp head-udp in head-len ∙ rw (← k, ← p) refl
 
 pub put-head-told : (l : Link) (d : List ℕ) (h : Repr) (n at : ℕ) (a b c : List ℕ) → h ≡ ip_of l d → n ≡ Iphc.length_of h → b ≡ put at (Iphc.bytes_of h) a → c ≡ put (at + n) (udp_part d) b → c ≡ put at (head_bytes l d) a
 unfolding head_bytes
 put-head-told l d h n at a b c e f p q = more a b c at n (Iphc.bytes_of h) (udp_part d) (IphcPuts.length-bytes h ∙ sym f) p q ∙ ap (λ z. put at (Iphc.bytes_of z ++ udp_part d) a) e
+
+pub put-head-done : (l : Link) (d : List ℕ) (h : Repr) (n at : ℕ) (a b c : List ℕ) (u : Option UdpNhcRepr) → h ≡ ip_of l d → n ≡ Iphc.length_of h → u ≡ udp_field d → b ≡ put at (Iphc.bytes_of h) a → c ≡ put (at + n) (udp_bytes u) b → c ≡ put at (head_bytes l d) a
+put-head-done l d h n at a b c u e f i p q = put-head-told l d h n at a b c e f p (q ∙ ap (λ z. put (at + n) z b) (bytes-told d u i))
 
 pub put-mac-told : (l : Link) (h : MacHeader.Repr) (a b : List ℕ) → h ≡ mac_of l → mac_length l ≤ length a → b ≡ over (Mac.length_of h) (Mac.bytes_of h) a → b ≡ put 0 (mac_bytes l) a
 put-mac-told l h a b e w p =
@@ -148,10 +144,6 @@ put-mac-told l h a b e w p =
 covers-most : (t : Bool) → choose t 48 40 ≤ 48
 covers-most true = omega arith
 covers-most false = omega arith
-
-pub covers-told : (d : List ℕ) (u : Bool) → u ≡ is_udp d → choose u 48 40 ≡ covers d
-unfolding covers
-covers-told d u e = ap (λ z. choose z 48 40) e
 
 pub covers-within : (d : List ℕ) → 40 ≤ length d → covers d ≤ length d
 unfolding covers is_udp
@@ -170,3 +162,8 @@ put-emitted at e n bs s l p q h r =
     ap (λ z. take at l ++ (z ++ drop (e - at) (drop at l))) t
     ∙ ap (λ z. take at l ++ (bs ++ z)) (ap (λ z. drop z (drop at l)) (k ∙ sym p) ∙ drop-drop (length bs) at l)
     ∙ sym (put-inside at bs l (omega arith))
+
+-- ---- what the check takes from here
+pub ruleset mac_told = (put-mac-told)
+
+pub ruleset udp_told = (udp-most)

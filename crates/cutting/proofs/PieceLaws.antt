@@ -1,6 +1,6 @@
 -- The part of a number, in place.
 use Prim.Native.Nat.{ℕ, zero, suc, ◌+◌, ◌-◌, ◌*◌, ◌/◌, ◌≤◌, ◌<◌}
-use native.Mathlib.Nat.{lt_of_not-le, suc-mul, mul-le-mul}
+use native.Mathlib.Nat.{lt_of_not-le, suc-mul}
 use native.Mathlib.Decide.{dec_le}
 use native.Mathlib.Omega.{arith}
 use mathlib.Core.List.{List, [], ◌∷◌}
@@ -13,11 +13,7 @@ use Rattle.octets.specs.Read.{is, refused, choose}
 use Rattle.cutting.specs.Pieces.{units, piece_from, later_pieces, whole_length, first_part, later_room, pieces, nth}
 use Rattle.cutting.specs.declared.piece.Plan.{Plan}
 use Rattle.cutting.specs.declared.piece.Piece.{Piece}
-use Rattle.cutting.specs.declared.piece.Piece.TheVariants.{Whole, First, Later}
-
--- ---- numbers
-pub times-most : (i u : ℕ) → i ≤ 65535 → u ≤ 127 → i * u ≤ 8322945
-times-most i u h k = mul-le-mul h k
+use Rattle.cutting.specs.declared.piece.Piece.TheVariants.{Whole, First}
 
 -- ---- a list of one of two shapes
 nth-zero : {A : Type 0} (t : Bool) (x : A) (xs ys : List A) → nth (choose t (x ∷ xs) (x ∷ ys)) 0 ≡ is x
@@ -33,14 +29,6 @@ choose-test : {A : Type 0} (a b r : ℕ) (x y z : A) → (a ≤ r → b ≤ r) �
 choose-test a b r x y z f g = elim (dec_le a r) [ yes q ↦ rw (le-leb a r q, le-leb b r (f q)) refl | no q ↦ rw (lt-leb a r (lt_of_not-le q)) (g (lt_of_not-le q)) ]
 
 -- ---- the parts behind the first
-pub rest_from : (room size at : ℕ) → size - at ≤ room → Later at (size - at) ≡ piece_from room size at
-unfolding piece_from
-rest_from room size at h = rw (le-leb (size - at) room h) refl
-
-pub units-from : (room size at : ℕ) → room < size - at → Later at (room / 8 * 8) ≡ piece_from room size at
-unfolding piece_from
-units-from room size at h = rw (lt-leb (size - at) room h) refl
-
 later_first : (room size fuel at : ℕ) → 1 ≤ fuel → nth (later_pieces room size fuel at) 0 ≡ is (piece_from room size at)
 unfolding later_pieces
 later_first room size zero at h = absurd (omega arith)
@@ -109,30 +97,47 @@ count-end room size total at n h k (suc fuel, f, e) =
 
 -- ---- the pieces
 module _ (p : Plan) where
-  pub whole-zero : (k : ℕ) → whole_length p ≤ p.limit → k ≡ 0 → is Whole ≡ nth (pieces p) k
-  unfolding pieces
-  whole-zero k h z = rw (z, le-leb (whole_length p) p.limit h) refl
+  -- as the code computes them
+  abbrev whole : ℕ
+  whole = p.mac + (p.head + (p.size - p.covers))
 
-  pub whole-past : (k : ℕ) → whole_length p ≤ p.limit → (k ≡ 0 → ⊥) → refused 10 ≡ nth (pieces p) k
-  unfolding pieces
+  abbrev first : ℕ
+  first = (p.limit - (p.mac + (4 + p.head))) / 8 * 8
+
+  abbrev room : ℕ
+  room = p.limit - (p.mac + 5)
+
+  pub whole-zero : (k : ℕ) → whole ≤ p.limit → k ≡ 0 → is Whole ≡ nth (pieces p) k
+  unfolding pieces whole_length first_part later_room
+  whole-zero k h z = rw (z, le-leb whole p.limit h) refl
+
+  pub whole-past : (k : ℕ) → whole ≤ p.limit → (k ≡ 0 → ⊥) → refused 10 ≡ nth (pieces p) k
+  unfolding pieces whole_length first_part later_room
   whole-past k h z =
       let s : k ≡ suc (k - 1) = omega arith in
-      rw (s, le-leb (whole_length p) p.limit h) refl
+      rw (s, le-leb whole p.limit h) refl
 
-  pub first-zero : (k n : ℕ) → p.limit < whole_length p → k ≡ 0 → n ≡ first_part p → is (First n) ≡ nth (pieces p) k
-  unfolding pieces
-  first-zero k n h z e = rw (z, lt-leb (whole_length p) p.limit h) (ap (λ x. is (First x)) e)
+  pub first-zero : (k n : ℕ) → p.limit < whole → k ≡ 0 → n ≡ first → is (First n) ≡ nth (pieces p) k
+  unfolding pieces whole_length first_part later_room
+  first-zero k n h z e = rw (z, lt-leb whole p.limit h) (ap (λ x. is (First x)) e)
 
-  pub later_more : (k : ℕ) → p.limit < whole_length p → (k ≡ 0 → ⊥) → nth (later_pieces (later_room p) p.size p.size (p.covers + first_part p)) (k - 1) ≡ nth (pieces p) k
-  unfolding pieces
+  pub later_more : (k : ℕ) → p.limit < whole → (k ≡ 0 → ⊥) → nth (later_pieces room p.size p.size (p.covers + first)) (k - 1) ≡ nth (pieces p) k
+  unfolding pieces whole_length first_part later_room
   later_more k h z =
       let s : k ≡ suc (k - 1) = omega arith in
-      sym (ap (nth (pieces p)) s ∙ rw (lt-leb (whole_length p) p.limit h) refl)
+      sym (ap (nth (pieces p)) s ∙ rw (lt-leb whole p.limit h) refl)
 
-  pub whole-count : whole_length p ≤ p.limit → 1 ≡ length (pieces p)
-  unfolding pieces
-  whole-count h = rw (le-leb (whole_length p) p.limit h) refl
+  pub whole-count : whole ≤ p.limit → 1 ≡ length (pieces p)
+  unfolding pieces whole_length first_part later_room
+  whole-count h = rw (le-leb whole p.limit h) refl
 
-  pub later-count : (n : ℕ) → p.limit < whole_length p → n ≡ length (later_pieces (later_room p) p.size p.size (p.covers + first_part p)) → 1 + n ≡ length (pieces p)
-  unfolding pieces
-  later-count n h e = rw (lt-leb (whole_length p) p.limit h) (omega arith)
+  pub later-count : (n : ℕ) → p.limit < whole → n ≡ length (later_pieces room p.size p.size (p.covers + first)) → 1 + n ≡ length (pieces p)
+  unfolding pieces whole_length first_part later_room
+  later-count n h e = rw (lt-leb whole p.limit h) (omega arith)
+
+-- ---- what the check takes from here
+pub ruleset later_told = (later-zero, later-past, later-there)
+
+pub ruleset piece_told = (whole-zero, whole-past, first-zero, later_more)
+
+pub ruleset count_told = (whole-count, later-count)

@@ -20,7 +20,8 @@ use Rattle.cutting.specs.declared.link.Link.{Link}
 use Rattle.cutting.specs.declared.piece.Piece.{Piece}
 use Rattle.cutting.specs.declared.piece.Piece.TheVariants.{Whole, First, Later}
 use Rattle.cutting.proofs.HeadLaws.{head-most}
-use Rattle.cutting.proofs.WriteLaws.{Ready, middle-is, frame-length}
+use Rattle.cutting.specs.Cut.{Ready}
+use Rattle.cutting.proofs.WriteLaws.{middle-is, frame-length}
 
 -- it holds of every element
 abbrev pub Each : {A : Type 0} → (A → Type 0) → List A → Type 0

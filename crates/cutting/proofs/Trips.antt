@@ -1,4 +1,5 @@
 -- A frame of a cutting, read back: the MAC header, the fragment header, the compressed headers and what they stand for.
+use Rattle.std.specs.Prelude.{Option, Some, None}
 use Prim.Native.Nat.{ℕ, ◌+◌, ◌-◌, ◌*◌, ◌/◌, ◌%◌, ◌^◌, ◌≤◌, ◌<◌}
 use native.Mathlib.Nat.{add-zero}
 use native.Mathlib.Omega.{arith}
@@ -12,7 +13,6 @@ use borrow.Author.Tests.{le-leb, eq-eqb, ne_eqb}
 use Rattle.octets.specs.Read.{is, got, choose, byte}
 use Rattle.octets.specs.Ipv6.{is_unspecified, is_multicast, is_link_local}
 use Rattle.octets.specs.Write.{byte_bytes, be16_bytes}
-use Rattle.octets.specs.declared.field.WordField.{WordField}
 use Rattle.octets.specs.declared.ipv6.Ipv6Addr.{Ipv6Addr}
 use Rattle.octets.proofs.RoundTrip.{reads_byte}
 use Rattle.ieee802154.specs.Address.{is_present}
@@ -21,7 +21,6 @@ use Rattle.ieee802154.specs.Mac as Mac
 use Rattle.ieee802154.specs.RoundTrips.{pans_stand, round_trips}
 use Rattle.ieee802154.specs.declared.addr.Address.{Address}
 use Rattle.ieee802154.specs.declared.addr.Address.TheVariants.{Absent, Short, Extended}
-use Rattle.ieee802154.specs.declared.addr.AddressField.{AddressField}
 use Rattle.ieee802154.specs.declared.addr.Pan.{Pan}
 use Rattle.ieee802154.proofs.RoundTrips.{reads-back}
 use Rattle.ieee802154.proofs.WriteSteps as MacSteps
@@ -52,7 +51,7 @@ use Rattle.iphc.specs.declared.header.Repr as Iphc
 use Rattle.iphc.proofs.Puts as IphcPuts
 use Rattle.iphc.proofs.RoundTrip as IphcTrip
 use Rattle.expand.specs.Plain as Plain
-use Rattle.expand.specs.Plain.{UdpField, Headers, transport, by_next, behind, headers, plain, bytes_of, sized}
+use Rattle.expand.specs.Plain.{Headers, transport, by_next, behind, headers, plain, bytes_of, sized}
 use Rattle.expand.specs.Full as Full
 use Rattle.expand.specs.Sum.{no_sum, carried_at, was_elided, summed_by}
 use Rattle.expand.specs.Expand.{finished, expansion}
@@ -61,13 +60,13 @@ use Rattle.expand.specs.declared.checksum.UdpSum.{UdpSum}
 use Rattle.expand.proofs.Plain.{expansion-plain}
 use Rattle.expand.proofs.SumLaws.{Bytes}
 use Rattle.cutting.specs.Fields.{is_udp}
-use Rattle.cutting.specs.Head.{mac_of, mac_length, mac_bytes, next_of, ip_of, udp_of, udp_part, udp_part_length, head_bytes, head_length, covers, sum_sent}
+use Rattle.cutting.specs.Head.{mac_of, mac_length, mac_bytes, next_of, ip_of, udp_of, udp_field, udp_part, udp_part_length, head_bytes, head_length, covers, sum_sent}
 use Rattle.cutting.specs.Cut.{has_both, middle, part_of, frame_of}
 use Rattle.cutting.specs.declared.link.Link.{Link}
 use Rattle.cutting.specs.declared.piece.Piece.{Piece}
 use Rattle.cutting.specs.declared.piece.Piece.TheVariants.{Whole, First, Later}
 use Rattle.cutting.proofs.HeadLaws.{length-head, covers-within}
-use Rattle.cutting.proofs.Backs.{Ours, udp_field, headers-full}
+use Rattle.cutting.proofs.Backs.{Ours, headers-full}
 
 -- ---- the MAC header
 mac-go : (p : Pan) (a b : Address) (q t n : ℕ) → (is_present a && is_present b) ≡ true → round_trips (mac_of (record { pan = p; src = a; dst = b; sequence = q; tag = t; limit = n })) ≡ true
@@ -116,9 +115,9 @@ one : (x : ℕ) → length (byte_bytes x) ≡ 1
 unfolding byte_bytes
 one x = refl
 
-plain-read : (p : IpProtocol) (h : Iphc.Repr) (s : List ℕ) (m : ℕ) → by_next (Uncompressed p) h s m ≡ is (record { ip = h; udp = UdpField.None; rest = m + 0 })
+plain-read : (p : IpProtocol) (h : Iphc.Repr) (s : List ℕ) (m : ℕ) → by_next (Uncompressed p) h s m ≡ is (record { ip = h; udp = None; rest = m + 0 })
 unfolding by_next
-plain-read p h s m = ap (λ z. is (record { ip = h; udp = UdpField.None; rest = z })) (sym (add-zero m))
+plain-read p h s m = ap (λ z. is (record { ip = h; udp = None; rest = z })) (sym (add-zero m))
 
 -- ---- behind the compressed IPv6 header
 module _ (l : Link) (d : List ℕ) where
@@ -136,7 +135,7 @@ module _ (l : Link) (d : List ℕ) where
       let b : byte (q ++ (udp_nhc_bytes (udp_of d) ++ r)) m ≡ got (udp_first (udp_of d)) (m + 1) = ap (λ z. byte (q ++ z) m) (first-bytes r) ∙ reads_byte (udp_first (udp_of d)) q (t ++ r) m e ∙ ap (λ k. got (udp_first (udp_of d)) (m + k)) (one (udp_first (udp_of d))) in
       rw b nhc-is
 
-  udp-read : (q r : List ℕ) (m : ℕ) → length q ≡ m → by_next Compressed (ip_of l d) (q ++ (udp_nhc_bytes (udp_of d) ++ r)) m ≡ is (record { ip = ip_of l d; udp = UdpField.Some (udp_of d); rest = m + udp_length (udp_of d) })
+  udp-read : (q r : List ℕ) (m : ℕ) → length q ≡ m → by_next Compressed (ip_of l d) (q ++ (udp_nhc_bytes (udp_of d) ++ r)) m ≡ is (record { ip = ip_of l d; udp = Some (udp_of d); rest = m + udp_length (udp_of d) })
   unfolding by_next transport
   udp-read q r m e = rw (nhc-read q r m e, udp-trip (udp_of d) q r m e, length-udp (udp_of d)) refl
 
@@ -146,7 +145,7 @@ module _ (l : Link) (d : List ℕ) where
   behind_go false e q r m f = rw e (plain-read (record { 0 = _ }) (ip_of l d) (q ++ r) m)
 
   -- ---- all of them, wherever they stand
-  iphc-read : (ctx q r : List ℕ) (m : ℕ) → length q ≡ m → iphc ctx (AddressField.Some l.src) (AddressField.Some l.dst) (q ++ (Emit.bytes_of (ip_of l d) ++ r)) m ≡ got (ip_of l d) (m + length (Emit.bytes_of (ip_of l d)))
+  iphc-read : (ctx q r : List ℕ) (m : ℕ) → length q ≡ m → iphc ctx (Some l.src) (Some l.dst) (q ++ (Emit.bytes_of (ip_of l d) ++ r)) m ≡ got (ip_of l d) (m + length (Emit.bytes_of (ip_of l d)))
   unfolding ip_of
   iphc-read ctx q r m e = IphcTrip.round_trip (ip_of l d) ctx q r m e
 
@@ -154,7 +153,7 @@ module _ (l : Link) (d : List ℕ) where
   unfolding ip_of
   next-is = refl
 
-  pub headers-read : (ctx q r : List ℕ) (m : ℕ) → length q ≡ m → headers ctx (AddressField.Some l.src) (AddressField.Some l.dst) (q ++ (head_bytes l d ++ r)) m ≡ is (record { ip = ip_of l d; udp = udp_field d; rest = m + head_length l d })
+  pub headers-read : (ctx q r : List ℕ) (m : ℕ) → length q ≡ m → headers ctx (Some l.src) (Some l.dst) (q ++ (head_bytes l d ++ r)) m ≡ is (record { ip = ip_of l d; udp = udp_field d; rest = m + head_length l d })
   unfolding headers head_bytes head_length
   headers-read ctx q r m e =
       let a : List ℕ = Emit.bytes_of (ip_of l d) in
@@ -171,18 +170,18 @@ module _ (l : Link) (d : List ℕ) where
   behind-drop q r m e = ap (λ z. drop (z + head_length l d) (q ++ (head_bytes l d ++ r))) (sym e) ∙ drop-append-add q (head_bytes l d ++ r) (head_length l d) ∙ ap (λ z. drop z (head_bytes l d ++ r)) (sym (length-head l d)) ∙ drop-append_seam (head_bytes l d) r
 
 -- ---- what they stand for
-finished-not : (size : WordField) (m : UdpSum) (d : List ℕ) → was_elided m ≡ false → finished size m d ≡ d
+finished-not : (size : Option ℕ) (m : UdpSum) (d : List ℕ) → was_elided m ≡ false → finished size m d ≡ d
 unfolding summed_by
-finished-not WordField.None m d e = rw e refl
-finished-not (WordField.Some n) m d e = refl
+finished-not None m d e = rw e refl
+finished-not (Some n) m d e = refl
 
-sized-go : (size : WordField) (i : Iphc.Repr) (u : UdpField) (k : ℕ) (s r x : List ℕ) (total : ℕ) → drop k s ≡ r → was_elided (Plain.sum_of u) ≡ false → total_of size (40 + (Plain.udp_size u + length r)) ≡ total → 40 + (Plain.udp_size u + length r) ≤ total → Plain.ipv6_bytes i (total - 40) ++ Plain.udp_bytes u (total - 40) ≡ x → sized size (record { ip = i; udp = u; rest = k }) s ≡ is (record { bytes = x ++ r; sum = Plain.sum_of u })
+sized-go : (size : Option ℕ) (i : Iphc.Repr) (u : Option UdpNhcRepr) (k : ℕ) (s r x : List ℕ) (total : ℕ) → drop k s ≡ r → was_elided (Plain.sum_of u) ≡ false → total_of size (40 + (Plain.udp_size u + length r)) ≡ total → 40 + (Plain.udp_size u + length r) ≤ total → Plain.ipv6_bytes i (total - 40) ++ Plain.udp_bytes u (total - 40) ≡ x → sized size (record { ip = i; udp = u; rest = k }) s ≡ is (record { bytes = x ++ r; sum = Plain.sum_of u })
 unfolding sized bytes_of plain
 sized-go size i u k s r x total e1 e2 e3 h e4 =
     rw (e1, e3, le-leb (40 + (Plain.udp_size u + length r)) total h)
     (ap (λ z. is (record { bytes = z; sum = Plain.sum_of u })) (finished-not size (Plain.sum_of u) (Plain.ipv6_bytes i (total - 40) ++ (Plain.udp_bytes u (total - 40) ++ r)) e2 ∙ sym (append_assoc (Plain.ipv6_bytes i (total - 40)) (Plain.udp_bytes u (total - 40)) r) ∙ ap (λ z. z ++ r) e4))
 
-field-go : (t : Bool) (u : UdpNhcRepr) → Full.is_absent u.checksum ≡ false → (40 + Plain.udp_size (choose t (UdpField.Some u) UdpField.None) ≡ choose t 48 40) × (Plain.sum_of (choose t (UdpField.Some u) UdpField.None) ≡ choose t (carried_at 0 40) no_sum)
+field-go : (t : Bool) (u : UdpNhcRepr) → Full.is_absent u.checksum ≡ false → (40 + Plain.udp_size (choose t (Some u) None) ≡ choose t 48 40) × (Plain.sum_of (choose t (Some u) None) ≡ choose t (carried_at 0 40) no_sum)
 field-go true u e = (refl, rw e refl)
 field-go false u e = (refl, refl)
 
@@ -199,12 +198,12 @@ unfolding sum_sent
 sent-carried d = sent-go (is_udp d)
 
 -- what the frame's headers and the r behind them stand for: as many bytes of the datagram as they cover, and r
-pub expansion-read : (l : Link) (d ctx q r : List ℕ) (m : ℕ) (size : WordField) → Bytes d → Ours d → 40 ≤ length d → length q ≡ m → length (q ++ (head_bytes l d ++ r)) ≤ 127 → covers d + length r ≤ length d → total_of size (covers d + length r) ≡ length d → expansion ctx (AddressField.Some l.src) (AddressField.Some l.dst) size (q ++ (head_bytes l d ++ r)) m ≡ is (record { bytes = take (covers d) d ++ r; sum = sum_sent d })
+pub expansion-read : (l : Link) (d ctx q r : List ℕ) (m : ℕ) (size : Option ℕ) → Bytes d → Ours d → 40 ≤ length d → length q ≡ m → length (q ++ (head_bytes l d ++ r)) ≤ 127 → covers d + length r ≤ length d → total_of size (covers d + length r) ≡ length d → expansion ctx (Some l.src) (Some l.dst) size (q ++ (head_bytes l d ++ r)) m ≡ is (record { bytes = take (covers d) d ++ r; sum = sum_sent d })
 expansion-read l d ctx q r m size w o h e n k t =
     let s : List ℕ = q ++ (head_bytes l d ++ r) in
     let f = field_is d in
     let c : 40 + (Plain.udp_size (udp_field d) + length r) ≡ covers d + length r = omega (arith, f.0) in
-    expansion-plain ctx (AddressField.Some l.src) (AddressField.Some l.dst) size s m (record { ip = ip_of l d; udp = udp_field d; rest = m + head_length l d }) n (headers-read l d ctx q r m e)
+    expansion-plain ctx (Some l.src) (Some l.dst) size s m (record { ip = ip_of l d; udp = udp_field d; rest = m + head_length l d }) n (headers-read l d ctx q r m e)
     ∙ sized-go size (ip_of l d) (udp_field d) (m + head_length l d) s r (take (covers d) d) (length d) (behind-drop l d q r m e) (ap was_elided f.1 ∙ sent-carried d) (ap (total_of size) c ∙ t) (omega arith) (headers-full l d w o h)
     ∙ ap (λ z. is (record { bytes = take (covers d) d ++ r; sum = z })) f.1
 
@@ -215,7 +214,7 @@ iid-go true false r x y z = omega arith
 iid-go false s true x y z = omega arith
 iid-go false s false x y z = omega arith
 
-iid-most : (i : ℕ) (a : AddressField) → (Emit.iid_form i a).mode ≤ 3
+iid-most : (i : ℕ) (a : Option Address) → (Emit.iid_form i a).mode ≤ 3
 unfolding Emit.iid_form
 iid-most i a = iid-go (eqb (i / 2 ^ 16) 0xfffe00) (Emit.is_short a (i % 2 ^ 16)) (Emit.is_extended a i) Nothing (Bits16 (i % 2 ^ 16)) (Bits64 i)
 
@@ -224,7 +223,7 @@ src-go true s f x y h = omega arith
 src-go false true f x y h = omega arith
 src-go false false f x y h = omega arith
 
-src-most : (a : Ipv6Addr) (b : AddressField) → (Emit.src_form a b).mode ≤ 7
+src-most : (a : Ipv6Addr) (b : Option Address) → (Emit.src_form a b).mode ≤ 7
 unfolding Emit.src_form
 src-most a b = src-go (is_unspecified a) (is_link_local a) (Emit.iid_form a.iid b) Nothing (Bits128 a.prefix a.iid) (iid-most a.iid b)
 
@@ -245,7 +244,7 @@ dst-go true s g f y h k = omega arith
 dst-go false true g f y h k = omega arith
 dst-go false false g f y h k = omega arith
 
-dst-most : (a : Ipv6Addr) (b : AddressField) → (Emit.dst_form a b).mode ≤ 15
+dst-most : (a : Ipv6Addr) (b : Option Address) → (Emit.dst_form a b).mode ≤ 15
 unfolding Emit.dst_form
 dst-most a b = dst-go (is_multicast a) (is_link_local a) (Emit.multicast_form a) (Emit.iid_form a.iid b) (Bits128 a.prefix a.iid) (group-most a) (iid-most a.iid b)
 
@@ -332,12 +331,12 @@ module _ (l : Link) (d : List ℕ) where
       let h : Repr = Fragment (length d) l.tag (record { 0 = at / 8 % 256 }) in
       begins-dispatch FragmentHeader (mac_bytes l) (Frag.bytes_of h ++ part_of d (Later at n)) (mac_length l) length-mac (begins-frag h (part_of d (Later at n)))
 
-  pub whole-expands : (ctx : List ℕ) → Bytes d → Ours d → 40 ≤ length d → length (frame_of l d Whole) ≤ 127 → expansion ctx (AddressField.Some l.src) (AddressField.Some l.dst) WordField.None (frame_of l d Whole) (mac_length l) ≡ is (record { bytes = d; sum = sum_sent d })
+  pub whole-expands : (ctx : List ℕ) → Bytes d → Ours d → 40 ≤ length d → length (frame_of l d Whole) ≤ 127 → expansion ctx (Some l.src) (Some l.dst) None (frame_of l d Whole) (mac_length l) ≡ is (record { bytes = d; sum = sum_sent d })
   unfolding frame_of middle part_of
   whole-expands ctx w o h k =
       let c : covers d ≤ length d = covers-within d h in
       let e : covers d + length (drop (covers d) d) ≡ length d = omega (arith, length-drop (covers d) d) in
-      expansion-read l d ctx (mac_bytes l) (drop (covers d) d) (mac_length l) WordField.None w o h length-mac k (omega arith) e
+      expansion-read l d ctx (mac_bytes l) (drop (covers d) d) (mac_length l) None w o h length-mac k (omega arith) e
       ∙ ap (λ z. is (record { bytes = z; sum = sum_sent d })) (take-append-drop (covers d) d)
 
   pub first_frag : (n : ℕ) → length d ≤ 2047 → Frag.frag (frame_of l d (First n)) (mac_length l) ≡ got (FirstFragment (length d) l.tag) (mac_length l + 4)
@@ -361,7 +360,7 @@ module _ (l : Link) (d : List ℕ) where
       ∙ ap (λ z. got (Fragment (length d) l.tag (record { 0 = z })) (mac_length l + length (Frag.bytes_of h))) a
       ∙ ap (λ z. got (Fragment (length d) l.tag (record { 0 = at / 8 })) (mac_length l + z)) (FragPuts.length-bytes h)
 
-  pub first-expands : (ctx : List ℕ) (n : ℕ) → Bytes d → Ours d → 40 ≤ length d → length (frame_of l d (First n)) ≤ 127 → covers d + n ≤ length d → expansion ctx (AddressField.Some l.src) (AddressField.Some l.dst) (WordField.Some (length d)) (frame_of l d (First n)) (mac_length l + 4) ≡ is (record { bytes = take (covers d + n) d; sum = sum_sent d })
+  pub first-expands : (ctx : List ℕ) (n : ℕ) → Bytes d → Ours d → 40 ≤ length d → length (frame_of l d (First n)) ≤ 127 → covers d + n ≤ length d → expansion ctx (Some l.src) (Some l.dst) (Some (length d)) (frame_of l d (First n)) (mac_length l + 4) ≡ is (record { bytes = take (covers d + n) d; sum = sum_sent d })
   unfolding frame_of middle part_of
   first-expands ctx n w o h k i =
       let f : Repr = FirstFragment (length d) l.tag in
@@ -372,7 +371,7 @@ module _ (l : Link) (d : List ℕ) where
       let m : length q ≡ mac_length l + 4 = omega (arith, length-append (mac_bytes l) (Frag.bytes_of f), FragPuts.length-bytes f, length-mac) in
       let b : length (q ++ (head_bytes l d ++ r)) ≤ 127 = rw (← e) k in
       let c : covers d + length r ≤ length d = omega (arith, length-take n (drop (covers d) d), length-drop (covers d) d) in
-      rw e (expansion-read l d ctx q r (mac_length l + 4) (WordField.Some (length d)) w o h m b c refl)
+      rw e (expansion-read l d ctx q r (mac_length l + 4) (Some (length d)) w o h m b c refl)
       ∙ ap (λ z. is (record { bytes = z; sum = sum_sent d })) (sym (take-add (covers d) n d))
 
   pub later-part : (at n : ℕ) → drop (mac_length l + 5) (frame_of l d (Later at n)) ≡ take n (drop at d)

@@ -1,4 +1,6 @@
 -- A frame that is written, from what calls gave.
+use Rattle.octets.specs.Answers.{of_answer}
+use Rattle.std.specs.Prelude.{Result, Ok, Err}
 use Prim.Native.Nat.{ℕ, zero, suc, ◌+◌, ◌/◌, ◌%◌, ◌≤◌, ◌<◌, min}
 use native.Mathlib.Omega.{arith}
 use mathlib.Core.List.{List, [], ◌∷◌, ◌++◌, map}
@@ -22,14 +24,13 @@ use Rattle.sixlowpan.specs.declared.frag.Repr.{Repr}
 use Rattle.sixlowpan.specs.declared.frag.Repr.TheVariants.{FirstFragment, Fragment}
 use Rattle.sixlowpan.proofs.FragPuts as FragPuts
 use Rattle.cutting.specs.Fields.{is_ours}
-use Rattle.cutting.specs.Head.{mac_of, mac_length, mac_bytes, head_length, head_bytes, head_of, covers}
-use Rattle.cutting.specs.Pieces.{of_piece, pieces, nth, Sane}
-use Rattle.cutting.specs.Cut.{plan_of, middle, middle_length, part_of, part_at, frame_of, in_range, has_both, cut, cut_frame, cut_count, answered, written}
+use Rattle.cutting.specs.Head.{mac_of, mac_length, mac_bytes, head_length, head_bytes, head_of, covers_of, covers}
+use Rattle.cutting.specs.Pieces.{pieces, nth, Sane}
+use Rattle.cutting.specs.Cut.{plan_of, middle, middle_length, part_of, part_at, frame_of, in_range, Ready, has_both, cut, cut_frame, cut_count, answered, written}
 use Rattle.cutting.specs.declared.link.Link.{Link}
 use Rattle.cutting.specs.declared.head.Head.{Head}
 use Rattle.cutting.specs.declared.piece.Plan.{Plan}
 use Rattle.cutting.specs.declared.piece.Piece.{Piece}
-use Rattle.cutting.specs.declared.piece.PieceAnswer.{PieceAnswer}
 use Rattle.cutting.specs.declared.piece.Piece.TheVariants.{Whole, First, Later}
 use Rattle.cutting.proofs.HeadLaws.{length-head, head-most, head-len, head-udp, covers-told, covers-within}
 
@@ -129,7 +130,7 @@ module _ (l : Link) (d : List ℕ) (p : Piece) where
   put-middle-later from n at a b e f = rw e f
 
 -- ---- the plan
-pub plan-told : (l : Link) (d : List ℕ) (h : Head) (r : MacHeader.Repr) (m c : ℕ) → h ≡ head_of l d → r ≡ mac_of l → m ≡ Mac.length_of r → c ≡ choose h.udp 48 40 → 40 ≤ length d → length d ≤ 2047 → 80 ≤ l.limit → l.limit ≤ 127 → (◌≡◌ {A = Plan} (record { mac = m; head = h.len; covers = c; size = length d; limit = l.limit }) (plan_of l d)) × Sane (record { mac = m; head = h.len; covers = c; size = length d; limit = l.limit })
+pub plan-told : (l : Link) (d : List ℕ) (h : Head) (r : MacHeader.Repr) (m c : ℕ) → h ≡ head_of l d → r ≡ mac_of l → m ≡ Mac.length_of r → c ≡ covers_of h.udp → 40 ≤ length d → length d ≤ 2047 → 80 ≤ l.limit → l.limit ≤ 127 → (◌≡◌ {A = Plan} (record { mac = m; head = h.len; covers = c; size = length d; limit = l.limit }) (plan_of l d)) × Sane (record { mac = m; head = h.len; covers = c; size = length d; limit = l.limit })
 unfolding plan_of
 plan-told l d h r m c e f g i w x y z =
     let k : c ≡ covers d = i ∙ covers-told d h.udp (head-udp l d h e) in (
@@ -173,10 +174,6 @@ length-map f (x ∷ xs) = ap suc (length-map f xs)
 refusing : (m : Answer (List ℕ)) (n : ℕ) (room : List ℕ) → m ≡ refused n → (refused n ≡ answered m room) × (room ≡ written m room)
 refusing m n room e = rw e (refl, refl)
 
--- the ranges of 4
-abbrev pub Ready : Link → List ℕ → Type 0
-Ready l d = (40 ≤ length d) × (length d ≤ 2047) × (80 ≤ l.limit) × (l.limit ≤ 127)
-
 module _ (l : Link) (d : List ℕ) where
   ready : Ready l d → in_range l d ≡ true
   unfolding in_range
@@ -198,15 +195,15 @@ module _ (l : Link) (d : List ℕ) where
   unfolding cut_frame cut
   found k b o h p q r s = rw (ready h, ← p, q, ← r, s) (nth-map (frame_of l d) (pieces (plan_of l d)) k)
 
-  found_as : (k : ℕ) (p : Plan) (x y : PieceAnswer) (b o : Bool) → Ready l d → b ≡ has_both l → b ≡ true → o ≡ is_ours d → o ≡ true → p ≡ plan_of l d → of_piece x ≡ nth (pieces p) k → x ≡ y → cut_frame l d k ≡ and_then (of_piece y) (λ z. is (frame_of l d z))
+  found_as : (k : ℕ) (p : Plan) (x y : Result Piece Refusal) (b o : Bool) → Ready l d → b ≡ has_both l → b ≡ true → o ≡ is_ours d → o ≡ true → p ≡ plan_of l d → of_answer x ≡ nth (pieces p) k → x ≡ y → cut_frame l d k ≡ and_then (of_answer y) (λ z. is (frame_of l d z))
   found_as k p x y b o h e1 e2 e3 e4 e5 e6 e7 =
-      found k b o h e1 e2 e3 e4 ∙ ap (λ z. and_then z (λ z. is (frame_of l d z))) (ap (λ z. nth (pieces z) k) (sym e5) ∙ sym e6 ∙ ap of_piece e7)
+      found k b o h e1 e2 e3 e4 ∙ ap (λ z. and_then z (λ z. is (frame_of l d z))) (ap (λ z. nth (pieces z) k) (sym e5) ∙ sym e6 ∙ ap of_answer e7)
 
-  pub of-piece : (k : ℕ) (p : Plan) (q : Piece) (x : PieceAnswer) (b o : Bool) (r : Answer ℕ) (room out : List ℕ) → Ready l d → b ≡ has_both l → b ≡ true → o ≡ is_ours d → o ≡ true → p ≡ plan_of l d → of_piece x ≡ nth (pieces p) k → x ≡ PieceAnswer.Is q → r ≡ wrote (length (frame_of l d q)) room → out ≡ over (length (frame_of l d q)) (frame_of l d q) room → (r ≡ answered (cut_frame l d k) room) × (out ≡ written (cut_frame l d k) room)
-  of-piece k p q x b o r room out h e1 e2 e3 e4 e5 e6 e7 e8 e9 = rw (found_as k p x (PieceAnswer.Is q) b o h e1 e2 e3 e4 e5 e6 e7) (e8, e9)
+  pub of-piece : (k : ℕ) (p : Plan) (q : Piece) (x : Result Piece Refusal) (b o : Bool) (r : Answer ℕ) (room out : List ℕ) → Ready l d → b ≡ has_both l → b ≡ true → o ≡ is_ours d → o ≡ true → p ≡ plan_of l d → of_answer x ≡ nth (pieces p) k → x ≡ Ok q → r ≡ wrote (length (frame_of l d q)) room → out ≡ over (length (frame_of l d q)) (frame_of l d q) room → (r ≡ answered (cut_frame l d k) room) × (out ≡ written (cut_frame l d k) room)
+  of-piece k p q x b o r room out h e1 e2 e3 e4 e5 e6 e7 e8 e9 = rw (found_as k p x (Ok q) b o h e1 e2 e3 e4 e5 e6 e7) (e8, e9)
 
-  pub past-last : (k : ℕ) (p : Plan) (e : Refusal) (x : PieceAnswer) (b o : Bool) (room : List ℕ) → Ready l d → b ≡ has_both l → b ≡ true → o ≡ is_ours d → o ≡ true → p ≡ plan_of l d → of_piece x ≡ nth (pieces p) k → x ≡ PieceAnswer.Refused e → (refused (number_of e) ≡ answered (cut_frame l d k) room) × (room ≡ written (cut_frame l d k) room)
-  past-last k p e x b o room h e1 e2 e3 e4 e5 e6 e7 = refusing (cut_frame l d k) (number_of e) room (found_as k p x (PieceAnswer.Refused e) b o h e1 e2 e3 e4 e5 e6 e7)
+  pub past-last : (k : ℕ) (p : Plan) (e : Refusal) (x : Result Piece Refusal) (b o : Bool) (room : List ℕ) → Ready l d → b ≡ has_both l → b ≡ true → o ≡ is_ours d → o ≡ true → p ≡ plan_of l d → of_answer x ≡ nth (pieces p) k → x ≡ Err e → (refused (number_of e) ≡ answered (cut_frame l d k) room) × (room ≡ written (cut_frame l d k) room)
+  past-last k p e x b o room h e1 e2 e3 e4 e5 e6 e7 = refusing (cut_frame l d k) (number_of e) room (found_as k p x (Err e) b o h e1 e2 e3 e4 e5 e6 e7)
 
   pub not_ours : (k : ℕ) (b o : Bool) (room : List ℕ) → Ready l d → b ≡ has_both l → b ≡ true → o ≡ is_ours d → o ≡ false → (refused 16 ≡ answered (cut_frame l d k) room) × (room ≡ written (cut_frame l d k) room)
   not_ours k b o room h e1 e2 e3 e4 = refusing (cut_frame l d k) 16 room (no-ours k b o h e1 e2 e3 e4)
@@ -242,3 +239,8 @@ module _ (l : Link) (d : List ℕ) where
   pub count-all : (n : ℕ) (p : Plan) (b o : Bool) → Ready l d → b ≡ has_both l → b ≡ true → o ≡ is_ours d → o ≡ true → p ≡ plan_of l d → n ≡ length (pieces p) → is n ≡ cut_count l d
   unfolding cut_count cut
   count-all n p b o h e q r s t c = rw (ready h, ← e, q, ← r, s) (ap is (c ∙ ap (λ z. length (pieces z)) t ∙ sym (length-map (frame_of l d) (pieces (plan_of l d)))))
+
+-- ---- what the check takes from here
+pub ruleset range_told = (in-range, count-in-range)
+
+pub ruleset count_told = (count-all, count-ours, count-both)

@@ -1,7 +1,6 @@
 -- Cutting what we send: every frame of a datagram, in order, and the refusals.
-use Rattle.std.specs.Prelude.{ℕ, ◌+◌, ◌/◌, ◌%◌, List, ◌++◌, map, Bool, ◌&&◌, leb, length, take, drop}
+use Rattle.std.specs.Prelude.{ℕ, ◌+◌, ◌/◌, ◌%◌, ◌≤◌, List, ◌++◌, map, Bool, ◌&&◌, leb, length, take, drop}
 use Rattle.octets.specs.Read.{Answer, is, refused, and_then, choose}
-use Rattle.octets.specs.Refusal.{number_of}
 use Rattle.octets.specs.Write.{wrote, over}
 use Rattle.ieee802154.specs.Address.{is_present}
 use Rattle.sixlowpan.specs.Frag as Frag
@@ -12,7 +11,6 @@ use Rattle.cutting.specs.Pieces.{pieces, nth}
 use Rattle.cutting.specs.declared.link.Link.{Link}
 use Rattle.cutting.specs.declared.piece.Plan.{Plan}
 use Rattle.cutting.specs.declared.piece.Piece.{Piece}
-use Rattle.cutting.specs.declared.write.Counted.{Counted}
 use Rattle.cutting.specs.declared.piece.Piece.TheVariants.{Whole, First, Later}
 
 unfoldable pub plan_of : Link → List ℕ → Plan
@@ -47,6 +45,10 @@ frame_of l d p = mac_bytes l ++ (middle l d p ++ part_of d p)
 unfoldable pub in_range : Link → List ℕ → Bool
 in_range l d = leb 40 (length d) && (leb (length d) 2047 && (leb 80 l.limit && leb l.limit 127))
 
+-- its ranges
+abbrev pub Ready : Link → List ℕ → Type 0
+Ready l d = (40 ≤ length d) × (length d ≤ 2047) × (80 ≤ l.limit) × (l.limit ≤ 127)
+
 unfoldable pub has_both : Link → Bool
 has_both l = is_present l.src && is_present l.dst
 
@@ -66,10 +68,6 @@ cut_frame l d k = and_then (cut l d) (λ fs. nth fs k)
 -- how many frames there are
 unfoldable pub cut_count : Link → List ℕ → Answer ℕ
 cut_count l d = and_then (cut l d) (λ fs. is (length fs))
-
-abbrev pub of_counted : Counted → Answer ℕ
-of_counted (Counted.Frames n) = is n
-of_counted (Counted.Refused e) = refused (number_of e)
 
 -- ---- a frame that is written: last of all 7, where the room is too small
 abbrev pub answered : Answer (List ℕ) → List ℕ → Answer ℕ

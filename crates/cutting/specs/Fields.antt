@@ -1,11 +1,10 @@
 -- What is read of a datagram that is sent: IPv6 (RFC 8200, 3) and UDP (RFC 768).
 use Rattle.std.specs.Prelude.{ℕ, ◌+◌, ◌*◌, ◌^◌, List, Bool, ◌&&◌, eqb, leb, length}
-use Rattle.octets.specs.Read.{is, refused, Read, byte, be16, be32}
+use Rattle.octets.specs.Read.{is, refused, Read, byte, be16, be32, value_or}
 
--- what is read, or 0 past the end
+-- 0 past the end
 abbrev pub or_zero : Read ℕ → ℕ
-or_zero (is p) = p.value
-or_zero (refused n) = 0
+or_zero r = value_or 0 r
 
 -- version 6, traffic class 0 and flow label 0, in 32 bits; a payload length of the bytes that are present
 unfoldable pub is_ours : List ℕ → Bool

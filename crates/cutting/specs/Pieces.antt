@@ -2,15 +2,9 @@
 -- the last may fill the room.
 use Rattle.std.specs.Prelude.{ℕ, zero, suc, ◌+◌, ◌-◌, ◌*◌, ◌/◌, ◌≤◌, List, [], ◌∷◌, leb}
 use Rattle.octets.specs.Read.{Answer, is, refused, choose}
-use Rattle.octets.specs.Refusal.{number_of}
 use Rattle.cutting.specs.declared.piece.Plan.{Plan}
 use Rattle.cutting.specs.declared.piece.Piece.{Piece}
 use Rattle.cutting.specs.declared.piece.Piece.TheVariants.{Whole, First, Later}
-use Rattle.cutting.specs.declared.piece.PieceAnswer.{PieceAnswer}
-
-abbrev pub of_piece : PieceAnswer → Answer Piece
-of_piece (PieceAnswer.Is p) = is p
-of_piece (PieceAnswer.Refused e) = refused (number_of e)
 
 -- whole units of 8 octets in a room
 abbrev pub units : ℕ → ℕ

@@ -3,36 +3,24 @@ ghost use Rattle.std.specs.Prelude.{◌≡◌, ◌+◌, ◌*◌, ◌^◌, ◌<�
 ghost use Rattle.octets.specs.Read.{byte, be16, be32, be64};
 ghost use Rattle.cutting.specs.Fields.{or_zero, is_ours, is_udp};
 
-use octets::cursor::{ByteRead, Cursor, WideRead, WordRead};
+use octets::cursor::{Cursor, value_or};
 
 pub fn byte_at(d: &[u8], at: usize) -> u8
     ensures { result ≡ or_zero (byte d.now at) }
 {
-    let c = Cursor { at };
-    match c.byte(d) {
-        ByteRead::Field(x, _) => x,
-        ByteRead::Refused(_) => 0,
-    }
+    value_or(Cursor { at }.byte(d), 0)
 }
 
 pub fn word_at(d: &[u8], at: usize) -> u16
     ensures { result ≡ or_zero (be16 d.now at) }
 {
-    let c = Cursor { at };
-    match c.be16(d) {
-        WordRead::Field(x, _) => x,
-        WordRead::Refused(_) => 0,
-    }
+    value_or(Cursor { at }.be16(d), 0)
 }
 
 fn wide_at(d: &[u8], at: usize) -> u32
     ensures { result ≡ or_zero (be32 d.now at) }
 {
-    let c = Cursor { at };
-    match c.be32(d) {
-        WideRead::Field(x, _) => x,
-        WideRead::Refused(_) => 0,
-    }
+    value_or(Cursor { at }.be32(d), 0)
 }
 
 // Four bytes, the high one first.
@@ -43,6 +31,7 @@ fn quad(a: u8, b: u8, c: u8, e: u8) -> u64
 }
 
 // Eight bytes behind one test, and not through `Cursor`, so that the compiler reads them at once.
+#[tactic(auto, using(crate::proofs::FieldLaws::long_told))]
 pub fn long_at(d: &[u8], at: usize) -> u64
     ensures { result ≡ or_zero (be64 d.now at) }
 {
@@ -57,6 +46,7 @@ pub fn long_at(d: &[u8], at: usize) -> u64
 }
 
 // Version 6, traffic class and flow label 0, a payload length of the bytes that are present.
+#[tactic(auto, unfolding(crate::specs::Fields::is_ours))]
 pub fn is_ours(d: &[u8]) -> bool
     ensures { result ≡ is_ours d.now }
 {
@@ -66,13 +56,11 @@ pub fn is_ours(d: &[u8]) -> bool
 }
 
 // Whether its UDP header is compressed.
+#[tactic(auto, unfolding(crate::specs::Fields::is_udp))]
 pub fn is_udp(d: &[u8]) -> bool
     ensures { result ≡ is_udp d.now }
 {
     let next = byte_at(d, 6);
     let len = word_at(d, 44);
-    if d.len() < 48 {
-        return false;
-    }
-    next == 17 && (len as usize) + 40 == d.len()
+    48 <= d.len() && next == 17 && (len as usize) + 40 == d.len()
 }

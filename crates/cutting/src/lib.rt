@@ -14,4 +14,4 @@ mod piece;
 pub mod write;
 
 pub use link::Link;
-pub use write::{Counted, frame, frames};
+pub use write::{frame, frames};

@@ -2,11 +2,9 @@
 ghost use Rattle.std.specs.Prelude.{◌≡◌, ◌≤◌, length};
 ghost use Rattle.octets.specs.Write.{put};
 ghost use Rattle.cutting.specs.Head.{mac_of, mac_length, mac_bytes};
-ghost use Rattle.ieee802154.specs.Address.{is_present};
 ghost use Rattle.cutting.specs.Cut.{has_both};
 
-use ieee802154::{Address, AddressField, FrameType, FrameVersion, Pan, PanField};
-use octets::field::ByteField;
+use ieee802154::{Address, FrameType, FrameVersion, Pan};
 
 #[derive(Clone, Copy)]
 pub struct Link {
@@ -21,50 +19,36 @@ pub struct Link {
     pub limit: usize,
 }
 
-fn is_present(a: Address) -> bool
-    ensures { result ≡ is_present a }
-{
-    match a {
-        Address::Absent => false,
-        Address::Short(_) => true,
-        Address::Extended(_) => true,
-    }
-}
-
+#[tactic(auto, unfolding(crate::specs::Cut::has_both))]
 pub fn has_both(l: Link) -> bool
     ensures { result ≡ has_both l }
 {
-    let src = l.src;
-    let dst = l.dst;
-    is_present(src) && is_present(dst)
+    l.src.is_present() && l.dst.is_present()
 }
 
 pub fn mac_of(l: Link) -> ieee802154::Repr
     ensures { result ≡ mac_of l }
 {
-    let pan = l.pan;
-    let src = l.src;
-    let dst = l.dst;
     ieee802154::Repr {
         frame_type: FrameType::DATA,
         security_enabled: false,
         frame_pending: false,
         ack_request: false,
-        sequence_number: ByteField::Some(l.sequence),
+        sequence_number: Some(l.sequence),
         pan_id_compression: true,
         frame_version: FrameVersion::IEEE802154_2003,
-        dst_pan_id: PanField::Some(pan),
-        dst_addr: AddressField::Some(dst),
-        src_pan_id: PanField::None,
-        src_addr: AddressField::Some(src),
+        dst_pan_id: Some(l.pan),
+        dst_addr: Some(l.dst),
+        src_pan_id: None,
+        src_addr: Some(l.src),
     }
 }
 
 // Puts the MAC header at the front.
+#[tactic(auto, using(crate::proofs::HeadLaws::mac_told))]
 pub(crate) fn put_mac(buf: &mut [u8], l: Link)
     requires { mac_length l ≤ length buf.old }
     ensures { buf.new ≡ put 0 (mac_bytes l) buf.old }
 {
-    let h = mac_of(l);
-    h.emit(buf);
+    let _ = mac_of(l).emit(buf);
 }

@@ -1,47 +1,33 @@
 // The frames of a datagram.
-ghost use Rattle.std.specs.Prelude.{◌≡◌, ◌+◌, ◌≤◌, min, length};
-ghost use Rattle.octets.specs.Write.{of_written, Emits, put};
+// `buf, at` is the lent room and a place in it, as the writers of octets take them.
+ghost use Rattle.octets.specs.Answers.{of_answer};
+ghost use Rattle.std.specs.Prelude.{◌≡◌, ◌+◌, ◌≤◌, length};
+ghost use Rattle.octets.specs.Write.{Emits, put};
 ghost use Rattle.sixlowpan.specs.Frag.{bytes_of, length_of};
 ghost use Rattle.cutting.specs.Head.{head_of, covers};
 ghost use Rattle.cutting.specs.Cut.{plan_of, middle, middle_length, part_of, part_at, frame_of};
-ghost use Rattle.cutting.specs.Cut.{in_range, cut_frame, cut_count, answered, written, of_counted};
+ghost use Rattle.cutting.specs.Cut.{in_range, Ready, cut_frame, cut_count, answered, written};
 ghost use Rattle.cutting.specs.Pieces.{Sane};
 
 use super::fields::is_ours;
 use super::head::{Head, covers, head_of, put_head};
 use super::link::{Link, has_both, mac_of, put_mac};
-use super::piece::{Piece, PieceAnswer, Plan, count_pieces, piece_at};
+use super::piece::{Piece, Plan, count_pieces, piece_at};
 use expand::copy::{left, put_slice};
 use octets::refusal::Refusal;
-use octets::write::Written;
 use sixlowpan::frag::{Repr, Units};
 
-// How many frames there are, or why there is none.
-#[derive(Clone, Copy)]
-pub enum Counted {
-    Frames(usize),
-    Refused(Refusal),
-}
-
 // Datagrams of 40 to 2,047 bytes, and frames of at most 80 to 127.
+#[tactic(auto, unfolding(crate::specs::Cut::in_range))]
 fn in_range(d: &[u8], l: Link) -> bool
     ensures { result ≡ in_range l d.now }
 {
-    let limit = l.limit;
-    if d.len() < 40 {
-        return false;
-    }
-    if 2047 < d.len() {
-        return false;
-    }
-    if limit < 80 {
-        return false;
-    }
-    limit <= 127
+    40 <= d.len() && d.len() <= 2047 && 80 <= l.limit && l.limit <= 127
 }
 
+// `Ready` is what `in_range` tested. It speaks of the lent datagram and of the link, so no struct's invariant is it.
 fn plan_of(d: &[u8], l: Link, h: Head) -> Plan
-    requires in_bounds { (40 ≤ length d.now) × (length d.now ≤ 2047) × (80 ≤ l.limit) × (l.limit ≤ 127) }
+    requires in_bounds { Ready l d.now }
     requires h_value { h ≡ head_of l d.now }
     ensures { (result ≡ plan_of l d.now) × Sane result }
 {
@@ -62,13 +48,7 @@ fn put_frag(buf: &mut [u8], at: usize, h: Repr)
     ensures { buf.new ≡ put at (bytes_of h) buf.old }
 {
     let end = at + h.buffer_len();
-    h.emit(&mut buf[at..end]);
-}
-
-fn least(a: usize, b: usize) -> usize
-    ensures { result ≡ min a b }
-{
-    if a <= b { a } else { b }
+    let _ = h.emit(&mut buf[at..end]);
 }
 
 fn middle_len(head: usize, p: Piece) -> usize
@@ -100,8 +80,8 @@ fn part_len(d: &[u8], from: usize, p: Piece) -> usize
     let rest = left(d, from);
     match p {
         Piece::Whole => rest,
-        Piece::First(n) => least(n, rest),
-        Piece::Later(_, n) => least(n, rest),
+        Piece::First(n) => n.min(rest),
+        Piece::Later(_, n) => n.min(rest),
     }
 }
 
@@ -125,8 +105,16 @@ fn put_middle(buf: &mut [u8], at: usize, d: &[u8], h: Head, l: Link, p: Piece)
     }
 }
 
-// Writes the frame of a piece.
-fn write_piece(d: &[u8], l: Link, h: Head, plan: Plan, p: Piece, out: &mut [u8]) -> Written
+// Writes the frame of a piece. Datagram, link, head and plan stay four parameters: the contracts say of each what it is
+// of the lent datagram, and a struct of them would say the same in an invariant that every reader has to open.
+fn write_piece(
+    d: &[u8],
+    l: Link,
+    h: Head,
+    plan: Plan,
+    p: Piece,
+    out: &mut [u8],
+) -> Result<usize, Refusal>
     requires { (length d.now ≤ 2047) × (h ≡ head_of l d.now) × (plan ≡ plan_of l d.now) }
     ensures { Emits result (length (frame_of l d.now p)) (frame_of l d.now p)
         out.old out.new }
@@ -136,72 +124,67 @@ fn write_piece(d: &[u8], l: Link, h: Head, plan: Plan, p: Piece, out: &mut [u8])
     let part = part_len(d, from, p);
     let n = plan.mac + (middle + part);
     if out.len() < n {
-        return Written::Refused(Refusal::NoRoom);
+        return Err(Refusal::NoRoom);
     }
     put_mac(out, l);
     put_middle(out, plan.mac, d, h, l, p);
     put_slice(out, plan.mac + middle, d, from, part);
-    Written::Bytes(n)
+    Ok(n)
 }
 
 // Refusals 6, 16, 10 and 7.
-fn write_frame(d: &[u8], l: Link, k: u16, out: &mut [u8]) -> Written
-    requires { (40 ≤ length d.now) × (length d.now ≤ 2047) × (80 ≤ l.limit) × (l.limit ≤ 127) }
-    ensures { (of_written result ≡ answered (cut_frame l d.now k) out.old)
+fn write_frame(d: &[u8], l: Link, k: u16, out: &mut [u8]) -> Result<usize, Refusal>
+    requires { Ready l d.now }
+    ensures { (of_answer result ≡ answered (cut_frame l d.now k) out.old)
         × (out.new ≡ written (cut_frame l d.now k) out.old) }
 {
-    if has_both(l) {
-        if is_ours(d) {
-            let h = head_of(d, l);
-            let plan = plan_of(d, l, h);
-            match piece_at(plan, k) {
-                PieceAnswer::Is(p) => write_piece(d, l, h, plan, p, out),
-                PieceAnswer::Refused(e) => Written::Refused(e),
-            }
-        } else {
-            Written::Refused(Refusal::NotCut)
-        }
-    } else {
-        Written::Refused(Refusal::NoAddress)
+    if !has_both(l) {
+        return Err(Refusal::NoAddress);
     }
+    if !is_ours(d) {
+        return Err(Refusal::NotCut);
+    }
+    let h = head_of(d, l);
+    let plan = plan_of(d, l, h);
+    let p = piece_at(plan, k)?;
+    write_piece(d, l, h, plan, p, out)
 }
 
 // Writes frame k, from 0, of the cutting of the datagram into the front of the room.
-pub fn frame(datagram: &[u8], link: Link, k: u16, out: &mut [u8]) -> Written
-    ensures { (of_written result ≡ answered (cut_frame link datagram.now k) out.old)
+#[tactic(auto, using(crate::proofs::WriteLaws::range_told))]
+pub fn frame(datagram: &[u8], link: Link, k: u16, out: &mut [u8]) -> Result<usize, Refusal>
+    ensures { (of_answer result ≡ answered (cut_frame link datagram.now k) out.old)
         × (out.new ≡ written (cut_frame link datagram.now k) out.old) }
 {
-    if in_range(datagram, link) {
-        write_frame(datagram, link, k, out)
-    } else {
-        Written::Refused(Refusal::BadLength)
+    if !in_range(datagram, link) {
+        return Err(Refusal::BadLength);
     }
+    write_frame(datagram, link, k, out)
 }
 
 // Refusals 6 and 16.
-fn count_frames(d: &[u8], l: Link) -> Counted
-    requires { (40 ≤ length d.now) × (length d.now ≤ 2047) × (80 ≤ l.limit) × (l.limit ≤ 127) }
-    ensures { of_counted result ≡ cut_count l d.now }
+#[tactic(auto, using(crate::proofs::WriteLaws::count_told))]
+fn count_frames(d: &[u8], l: Link) -> Result<usize, Refusal>
+    requires { Ready l d.now }
+    ensures { of_answer result ≡ cut_count l d.now }
 {
-    if has_both(l) {
-        if is_ours(d) {
-            let h = head_of(d, l);
-            Counted::Frames(count_pieces(plan_of(d, l, h)))
-        } else {
-            Counted::Refused(Refusal::NotCut)
-        }
-    } else {
-        Counted::Refused(Refusal::NoAddress)
+    if !has_both(l) {
+        return Err(Refusal::NoAddress);
     }
+    if !is_ours(d) {
+        return Err(Refusal::NotCut);
+    }
+    let h = head_of(d, l);
+    Ok(count_pieces(plan_of(d, l, h)))
 }
 
 // How many frames the cutting of the datagram has.
-pub fn frames(datagram: &[u8], link: Link) -> Counted
-    ensures { of_counted result ≡ cut_count link datagram.now }
+#[tactic(auto, using(crate::proofs::WriteLaws::range_told))]
+pub fn frames(datagram: &[u8], link: Link) -> Result<usize, Refusal>
+    ensures { of_answer result ≡ cut_count link datagram.now }
 {
-    if in_range(datagram, link) {
-        count_frames(datagram, link)
-    } else {
-        Counted::Refused(Refusal::BadLength)
+    if !in_range(datagram, link) {
+        return Err(Refusal::BadLength);
     }
+    count_frames(datagram, link)
 }

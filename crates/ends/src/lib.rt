@@ -9,7 +9,8 @@
 // for.
 #![tactic(auto)]
 
-ghost use Rattle.std.specs.Prelude.{◌≡◌, ◌≤◌, length, IfOk, OnOk, MatchResult, IsUtf8};
+ghost use Rattle.std.specs.Prelude.{◌≡◌, ◌≤◌, true, length, IfOk, OnOk, MatchResult, IsUtf8};
+ghost use Rattle.std.specs.Io.KnownBytes.{Appends};
 ghost use Rattle.ends.specs.Closing.{Status};
 ghost use Rattle.ends.specs.Line.{AppendsLine};
 
@@ -66,38 +67,21 @@ impl Write for WriteEnd {
     }
 }
 
-// The two ends, and where errors are said; how long the names are, 0 where there are none; and whether all is open.
+// Names in the room that the caller lends: how many bytes the new file's has, and how many of them are the second
+// argument. The bytes stand in that room: no heap, fixed memory.
+#[derive(Clone, Copy)]
+pub struct Names {
+    pub part: usize,
+    pub name: usize,
+}
+
+// The two ends, and where errors are said; and the names, where what is written goes to a file.
 #[derive(Drop)]
 pub struct Ends {
     pub input: ReadEnd,
     pub output: WriteEnd,
     pub errors: Stderr,
-    pub part: usize,
-    pub name: usize,
-    pub ready: bool,
-}
-
-// Nothing is to be read or written, and why was said.
-fn unready(rt: &HostRuntime) -> Ends {
-    Ends {
-        input: ReadEnd::Standard(rt.stdin()),
-        output: WriteEnd::Standard(rt.stdout()),
-        errors: rt.stderr(),
-        part: 0,
-        name: 0,
-        ready: false,
-    }
-}
-
-fn standard(rt: &HostRuntime) -> Ends {
-    Ends {
-        input: ReadEnd::Standard(rt.stdin()),
-        output: WriteEnd::Standard(rt.stdout()),
-        errors: rt.stderr(),
-        part: 0,
-        name: 0,
-        ready: true,
-    }
+    pub names: Option<Names>,
 }
 
 // The system's text of an error, without its number.
@@ -109,6 +93,7 @@ fn without_number(text: &str) -> &str {
 }
 
 // The system's text of an error, in the front of a room, and how long it is.
+// (An array and a length: no heap, fixed memory.)
 fn told(error: &io::Error) -> ([u8; 512], usize) {
     let mut room = Cursor::new([0u8; 512]);
     let _ = write!(room, "{error}");
@@ -192,70 +177,82 @@ fn unlink(rt: &HostRuntime, name: &[u8]) -> io::Result<()> {
     fs::remove_file(rt, text_of(name)?)
 }
 
-// Opens the file to read, and makes the one to write: `part` is its name, and `name` is how many bytes of it the second
-// argument has.
-fn open_both(rt: &HostRuntime, from: &[u8], part: &[u8], name: usize) -> Ends {
-    let input = match open_read(rt, from) {
-        Ok(file) => file,
-        Err(e) => {
-            let _ = fail(&mut rt.stderr(), from, &e);
-            return unready(rt);
+// Writes bytes; false where it cannot, and why was said.
+// A bool and no Result: why was said, so there is no error to hand on.
+pub fn send<W: Write, E: Write>(output: &mut W, errors: &mut E, bytes: &[u8]) -> bool
+    ensures { result ≡ true → Appends (W.contents output.old) (W.contents output.new) bytes.now }
+{
+    match output.write_all(bytes) {
+        Ok(()) => true,
+        Err(error) => {
+            let _ = fail(errors, b"write", &error);
+            false
         }
-    };
-    let output = match create(rt, part) {
-        Ok(file) => file,
-        Err(e) => {
-            let _ = fail(&mut rt.stderr(), part, &e);
-            return unready(rt);
-        }
-    };
-    Ends {
-        input: ReadEnd::Named(input),
-        output: WriteEnd::Named(output),
-        errors: rt.stderr(),
-        part: part.len(),
-        name,
-        ready: true,
     }
 }
 
-// The second argument and `.part` behind it.
-fn open_named(rt: &HostRuntime, from: &[u8], part: &mut [u8]) -> Ends {
-    let name = match rt.arg(2, part) {
-        Ok(n) => n,
-        Err(e) => {
-            let _ = fail(&mut rt.stderr(), b"the second argument", &missing(e));
-            return unready(rt);
+// What was had; or nothing, and why was said.
+fn or_said<T>(rt: &HostRuntime, what: &[u8], had: io::Result<T>) -> Option<T> {
+    match had {
+        Ok(x) => Some(x),
+        Err(error) => {
+            let _ = fail(&mut rt.stderr(), what, &error);
+            None
         }
-    };
+    }
+}
+
+// Opens the file to read, and makes the one to write: `part` is its name, and `name` is how many bytes of it the second
+// argument has.
+fn open_both(rt: &HostRuntime, from: &[u8], part: &[u8], name: usize) -> Option<Ends> {
+    let input = or_said(rt, from, open_read(rt, from))?;
+    let output = or_said(rt, part, create(rt, part))?;
+    Some(Ends {
+        input: ReadEnd::Named(input),
+        output: WriteEnd::Named(output),
+        errors: rt.stderr(),
+        names: Some(Names {
+            part: part.len(),
+            name,
+        }),
+    })
+}
+
+// The second argument and `.part` behind it.
+fn open_named(rt: &HostRuntime, from: &[u8], part: &mut [u8]) -> Option<Ends> {
+    let name = or_said(rt, b"the second argument", rt.arg(2, part).map_err(missing))?;
     let all = print::text(part, name, b".part");
     if all == name {
         let _ = rt.stderr().write_all(b"the second argument is too long\n");
-        return unready(rt);
+        return None;
     }
     open_both(rt, from, upto(part, all), name)
 }
 
-// Opens what the arguments name. The name of the file to write goes to `part`.
-pub fn open(rt: &HostRuntime, usage: &[u8], part: &mut [u8]) -> Ends
+// Opens what the arguments name; none where nothing is to be read or written, and why was said. The name of the file to
+// write goes to `part`.
+pub fn open(rt: &HostRuntime, usage: &[u8], part: &mut [u8]) -> Option<Ends>
     ensures { length part.new ≡ length part.old }
 {
     let n = arg_count(rt);
     if n == 1 {
-        return standard(rt);
+        return Some(Ends {
+            input: ReadEnd::Standard(rt.stdin()),
+            output: WriteEnd::Standard(rt.stdout()),
+            errors: rt.stderr(),
+            names: None,
+        });
     }
     if n != 3 {
         let _ = rt.stderr().write_all(usage);
-        return unready(rt);
+        return None;
     }
     let mut from = [0u8; 4096];
-    let m = match rt.arg(1, &mut from) {
-        Ok(m) => m,
-        Err(e) => {
-            let _ = fail(&mut rt.stderr(), b"the first argument", &missing(e));
-            return unready(rt);
-        }
-    };
+    let m = or_said(
+        rt,
+        b"the first argument",
+        rt.arg(1, &mut from).map_err(missing),
+    )?;
     open_named(rt, upto(&from, m), part)
 }
 
@@ -268,15 +265,14 @@ fn shut(output: WriteEnd) -> io::Result<()> {
     }
 }
 
-// Ends it, with all moved or not: 0, or -1 where no file was left under the second name.
+// Ends it, with all moved or not: 0, or -1 where no file was left under the second name. A number, as C has a status:
+// the contract, `Status`, speaks of it.
 pub fn close(rt: &HostRuntime, e: Ends, whole: bool, part: &[u8]) -> i32
     ensures { Status result }
 {
-    let all = e.part;
-    let name = e.name;
-    if all == 0 {
+    let Some(Names { part: all, name }) = e.names else {
         return 0;
-    }
+    };
     let closed = shut(e.output);
     if let Err(error) = closed {
         let _ = fail(&mut rt.stderr(), b"close", &error);

@@ -1,4 +1,6 @@
 -- A chain of headers: how far a step reads, the number that stands for it in front, and how long the chain gets.
+use Rattle.ieee802154.specs.declared.addr.Address.{Address}
+use Rattle.std.specs.Prelude.{Option}
 use Prim.Native.Nat.{ℕ, zero, suc, ◌+◌, ◌-◌, ◌*◌, ◌/◌, ◌%◌, ◌^◌, ◌≤◌, ◌<◌}
 use native.Mathlib.Omega.{arith}
 use mathlib.Core.Bool.{Bool, true, false, ◌&&◌, ◌||◌}
@@ -11,7 +13,6 @@ use Rattle.octets.specs.Read.{Answer, is, refused, Reader, got, and_then, choose
 use Rattle.octets.specs.declared.ipv6.Ipv6Addr.{Ipv6Addr}
 use Rattle.octets.proofs.Spans.{Starts, not-refused, starts-then, starts-byte, starts-be16, spans-byte, spans-skip}
 use Rattle.ieee802154.specs.Address.{flip57}
-use Rattle.ieee802154.specs.declared.addr.AddressField.{AddressField}
 use Rattle.sixlowpan.specs.Nhc.{nhc_of, nhc}
 use Rattle.sixlowpan.specs.NhcUdp.{udp, udp_rest}
 use Rattle.sixlowpan.specs.NhcExt.{ext, ext_rest}
@@ -45,7 +46,7 @@ starts-ext : Starts ext
 unfolding ext
 starts-ext = starts-then byte (λ b. branch (eqb (b / 16) 0b1110) (ext_rest b) (refuse 2)) starts-byte
 
-pub starts-iphc : (ctx : List ℕ) (ls ld : AddressField) → Starts (iphc ctx ls ld)
+pub starts-iphc : (ctx : List ℕ) (ls ld : Option Address) → Starts (iphc ctx ls ld)
 unfolding iphc base
 starts-iphc ctx ls ld = starts-then base (λ v. behind ctx ls ld (base_of v)) (starts-then be16 (λ v. branch (eqb (v / 2 ^ 13) 0b011) (give v) (refuse 2)) starts-be16)
 
@@ -144,7 +145,7 @@ link-steps left s at l n e =
     link-go i.value left s at l n i.second
 
 -- an IPv6 header takes two bytes or more
-pub iphc-reach : (ctx : List ℕ) (ls ld : AddressField) (s : List ℕ) (at : ℕ) (h : Repr) (n : ℕ) → iphc ctx ls ld s at ≡ got h n → (at + 2 ≤ n) × (n ≤ length s)
+pub iphc-reach : (ctx : List ℕ) (ls ld : Option Address) (s : List ℕ) (at : ℕ) (h : Repr) (n : ℕ) → iphc ctx ls ld s at ≡ got h n → (at + 2 ≤ n) × (n ≤ length s)
 iphc-reach ctx ls ld s at h n e =
     let f = iphc-length ctx ls ld s at n h (starts-iphc ctx ls ld s at h n e) e in
     (omega (arith, f.length-is), f.within)
@@ -316,7 +317,7 @@ unfolding behind_next size_of
 behind-size left s m f v (Uncompressed p) from d k e = subst (Within left s from) (got-value (rest p.0 (drop from s)) d from k e) (omega (arith, length-drop from s))
 behind-size left s m f v Compressed from d k e = f v from d k e
 
-pub header-size : (left : ℕ) (ctx s : List ℕ) (ls ld : AddressField) (m : Around → Reader Chain) → Small left s m → (at : ℕ) (c : Chain) (n : ℕ) → header_then ctx ls ld m s at ≡ got c n → Within (left + 1) s at c
+pub header-size : (left : ℕ) (ctx s : List ℕ) (ls ld : Option Address) (m : Around → Reader Chain) → Small left s m → (at : ℕ) (c : Chain) (n : ℕ) → header_then ctx ls ld m s at ≡ got c n → Within (left + 1) s at c
 unfolding header_then size_of
 header-size left ctx s ls ld m f at c n e =
     let i = invert (iphc ctx ls ld s at) (λ p. and_then (behind_next p.value.next_header (m (within p.value)) s p.next) (λ q. got (ipv6 p.value q.value) q.next)) _ e in

@@ -5,8 +5,8 @@ use native.Mathlib.Numerals.{add-one}
 use native.Mathlib.Nat.{add-zero}
 use mathlib.Core.List.{List, [], ◌∷◌, ◌++◌, append_assoc}
 use mathlib.Core.Path.{◌≡◌, refl, sym, ap, ◌∙◌}
-use lib.ListN.{length, get_or, set, take, drop, replicate, drop_of_length-le, length-set, length-take, length-drop, replicate-append-replicate}
-use lib.Seq.{drop-cons, get_or-take, get_or-drop, sets, sets-eq, set-append_left, set_comm, take-suc-set, take_all}
+use lib.ListN.{length, get_or, set, take, drop, drop_of_length-le, length-set, length-take, length-drop}
+use lib.Seq.{drop-cons, get_or-take, get_or-drop, sets, sets-eq, set-append_left, set_comm}
 use Rattle.octets.specs.Write.{put}
 use Rattle.octets.proofs.Puts.{put-none, put-nil}
 
@@ -40,22 +40,6 @@ put-end bs l at i m q h =
     min_cases (length bs) (length l - at) (put (at + i) (drop i bs) l ≡ l)
     (λ p e. let k : length bs ≤ i = omega arith in rw (drop_of_length-le bs k) (sym (put-nil (at + i) l)))
     (λ p e. sym (put-none (at + i) (drop i bs) l (omega arith)))
-
--- how many bytes are put, from what calls gave
-pub least-is : (s l : List ℕ) (at from n f a b m : ℕ) → f ≡ length (drop from s) → a ≡ min n f → b ≡ length (drop at l) → m ≡ min a b → m ≡ min (length (part s from n)) (length l - at)
-least-is s l at from n f a b m ef ea eb em =
-    em
-    ∙ ap (λ x. min x b) (ea ∙ ap (min n) ef ∙ sym (length-take n (drop from s)))
-    ∙ ap (min (length (part s from n))) (eb ∙ length-drop at l)
-
-pub below : (m a b i : ℕ) → m ≡ min a b → i < m → i < a
-below m a b i e h = omega arith
-
-pub up : (m i : ℕ) → i < m → i + 1 ≤ m
-up m i h = omega arith
-
-pub falls : (m i : ℕ) → i < m → m - (i + 1) < m - i
-falls m i h = omega arith
 
 -- ---- a run inside the room
 put-sets : (at : ℕ) (bs l : List ℕ) → put at bs l ≡ sets l at bs
@@ -97,13 +81,6 @@ put-before at (c ∷ cs) bs l =
 pub before : (l m n : List ℕ) (at k : ℕ) (cs bs : List ℕ) → length cs ≡ k → m ≡ put (at + k) bs l → n ≡ put at cs m → n ≡ put at (cs ++ bs) l
 before l m n at k cs bs h p q = q ∙ ap (put at cs) (p ∙ ap (λ z. put (at + z) bs l) (sym h)) ∙ put-before at cs bs l
 
--- ---- bytes that are cleared: i of them so far, and one more
-pub clear-more : (l : List ℕ) (i : ℕ) → i < length l → take i l ≡ replicate i 0 → take (i + 1) (set l i 0) ≡ replicate (i + 1) 0
-clear-more l i h e =
-    let s : suc i ≡ i + 1 = omega arith in
-    ap (λ k. take k (set l i 0)) (sym s) ∙ take-suc-set l i 0 h ∙ ap (λ z. z ++ (0 ∷ [])) e ∙ replicate-append-replicate i 1 0
-
-pub clear-end : (l : List ℕ) (i n : ℕ) → length l ≡ n → i ≤ n → n ≤ i → take i l ≡ replicate i 0 → l ≡ replicate n 0
-clear-end l i n k g h e =
-    let j : i ≡ n = omega arith in
-    sym (take_all i l (omega arith)) ∙ e ∙ ap (λ z. replicate z 0) j
+-- ---- how many bytes of a run are put: as many as there are, and as the room has places for
+pub part-fits : (s l : List ℕ) (at from n m : ℕ) → m ≡ min (min n (length (drop from s))) (length (drop at l)) → m ≡ min (length (part s from n)) (length l - at)
+part-fits s l at from n m q = q ∙ ap (λ z. min z (length (drop at l))) (sym (length-take n (drop from s))) ∙ ap (min (length (part s from n))) (length-drop at l)

@@ -1,4 +1,6 @@
 -- What every expansion has: its headers, its length, and where its checksum stands.
+use Rattle.ieee802154.specs.declared.addr.Address.{Address}
+use Rattle.std.specs.Prelude.{Option, Some, None}
 use Prim.Native.Nat.{ℕ, ◌+◌, ◌-◌, ◌/◌, ◌%◌, ◌≤◌}
 use native.Mathlib.Omega.{arith}
 use mathlib.Core.List.{List, ◌++◌}
@@ -10,9 +12,7 @@ use lib.Dec.{eqb, ltb, leb}
 use borrow.Author.Tests.{ltb-false, leb-true, le-leb, eqb-true}
 use Rattle.octets.specs.Read.{Answer, is, refused, Read, got, and_then, choose}
 use Rattle.octets.specs.Write.{be16_bytes}
-use Rattle.octets.specs.declared.field.WordField.{WordField}
 use Rattle.octets.proofs.Spans.{not-refused}
-use Rattle.ieee802154.specs.declared.addr.AddressField.{AddressField}
 use Rattle.iphc.specs.Iphc.{iphc}
 use Rattle.iphc.specs.declared.header.Repr.{Repr}
 use Rattle.sixlowpan.specs.declared.nhc.UdpNhcRepr.{UdpNhcRepr}
@@ -29,7 +29,7 @@ use Rattle.expand.proofs.ChainLaws.{header-size, chain-size}
 use Rattle.expand.proofs.FillLaws.{length-full, length-bytes}
 
 -- e is what the frame s stands for, and its headers are the chain found
-pub record Made (ctx : List ℕ) (ls ld : AddressField) (size : WordField) (s : List ℕ) (at : ℕ) (e : Expansion) : Type 0 where
+pub record Made (ctx : List ℕ) (ls ld : Option Address) (size : Option ℕ) (s : List ℕ) (at : ℕ) (e : Expansion) : Type 0 where
   pub found : Chain
   pub place : ℕ
   pub are-read : chained ctx ls ld s at ≡ got found place
@@ -41,10 +41,10 @@ pub record Made (ctx : List ℕ) (ls ld : AddressField) (size : WordField) (s : 
 abbrev Stood : UdpSum → ℕ → Type 0
 Stood m n = (m.ip + 40 ≤ m.udp) × (m.udp + 8 ≤ n)
 
-for-stood : (i o n : ℕ) (t : Bool) (c : WordField) → i + 40 ≤ o → o + 8 ≤ n → ((sum_for t i o c).kind ≡ 0 → ⊥) → Stood (sum_for t i o c) n
+for-stood : (i o n : ℕ) (t : Bool) (c : Option ℕ) → i + 40 ≤ o → o + 8 ≤ n → ((sum_for t i o c).kind ≡ 0 → ⊥) → Stood (sum_for t i o c) n
 for-stood i o n true c a b k = absurd (k refl)
-for-stood i o n false WordField.None a b k = (a, b)
-for-stood i o n false (WordField.Some x) a b k = (a, b)
+for-stood i o n false None a b k = (a, b)
+for-stood i o n false (Some x) a b k = (a, b)
 
 pub sum-stood : (c : Chain) (t : Bool) (i o : ℕ) → i + 40 ≤ o → ((sum_in t i o c).kind ≡ 0 → ⊥) → Stood (sum_in t i o c) (o + size_of c)
 unfolding sum_in size_of
@@ -58,14 +58,14 @@ sum-stood (ipv6 h c) t i o a k =
     (r.0, omega (arith, r.1))
 
 -- ---- an elided checksum is 0 in a chain's bytes
-absent-zero : (c : WordField) → is_absent c ≡ true → word_or c ≡ 0
-absent-zero WordField.None q = refl
-absent-zero (WordField.Some x) q = cc
+absent-zero : (c : Option ℕ) → is_absent c ≡ true → word_or c ≡ 0
+absent-zero None q = refl
+absent-zero (Some x) q = cc
 
-pub was-absent : (t : Bool) (i o : ℕ) (c : WordField) → was_elided (sum_for t i o c) ≡ true → (is_absent c ≡ true) × ((sum_for t i o c).udp ≡ o)
+pub was-absent : (t : Bool) (i o : ℕ) (c : Option ℕ) → was_elided (sum_for t i o c) ≡ true → (is_absent c ≡ true) × ((sum_for t i o c).udp ≡ o)
 was-absent true i o c q = (cc, cc)
-was-absent false i o WordField.None q = (refl, refl)
-was-absent false i o (WordField.Some x) q = (cc, cc)
+was-absent false i o None q = (refl, refl)
+was-absent false i o (Some x) q = (cc, cc)
 
 udp-zero : (h : UdpNhcRepr) (n : ℕ) (d : List ℕ) → is_absent h.checksum ≡ true → (get_or (udp_full h n ++ d) 6 0 ≡ 0) × (get_or (udp_full h n ++ d) 7 0 ≡ 0)
 unfolding udp_full be16_bytes
@@ -105,7 +105,7 @@ pub record Outer (c : Chain) : Type 0 where
   pub behind : Chain
   pub is-both : ipv6 header behind ≡ c
 
-pub outer-first : (ctx : List ℕ) (ls ld : AddressField) (s : List ℕ) (at : ℕ) (c : Chain) (n : ℕ) → chained ctx ls ld s at ≡ got c n → Outer c
+pub outer-first : (ctx : List ℕ) (ls ld : Option Address) (s : List ℕ) (at : ℕ) (c : Chain) (n : ℕ) → chained ctx ls ld s at ≡ got c n → Outer c
 unfolding chained header_then
 outer-first ctx ls ld s at c n e =
     let i = invert (iphc ctx ls ld s at) (λ p. and_then (behind_next p.value.next_header (chain 7 ctx (within p.value)) s p.next) (λ q. got (ipv6 p.value q.value) q.next)) _ e in
@@ -134,7 +134,7 @@ outer-zero c t o =
 elided-kind : (m : UdpSum) → was_elided m ≡ true → m.kind ≡ 0 → ⊥
 elided-kind m q e = omega (arith, eqb-true m.kind 1 q, e)
 
-module _ (ctx : List ℕ) (ls ld : AddressField) (size : WordField) (s : List ℕ) (at : ℕ) (e : Expansion) where
+module _ (ctx : List ℕ) (ls ld : Option Address) (size : Option ℕ) (s : List ℕ) (at : ℕ) (e : Expansion) where
   pub expansion-made : expansion ctx ls ld size s at ≡ is e → Made ctx ls ld size s at e
   unfolding expansion sized
   expansion-made p = long (ltb 127 (length s)) refl p
@@ -168,7 +168,7 @@ module _ (ctx : List ℕ) (ls ld : AddressField) (size : WordField) (s : List �
     at-most-455 = omega (arith, length-made, header-size 7 ctx s ls ld (chain 7 ctx) (chain-size 7 ctx s) at made.found made.place made.are-read, made.short)
 
     -- a first part ends within its size
-    pub part-within : (n : ℕ) → size ≡ WordField.Some n → length e.bytes ≤ n
+    pub part-within : (n : ℕ) → size ≡ Some n → length e.bytes ≤ n
     part-within n q =
         let f : total_of size (size_of made.found) ≡ n = ap (λ z. total_of z (size_of made.found)) q in
         omega (arith, length-made, made.fits)
@@ -186,7 +186,7 @@ module _ (ctx : List ℕ) (ls ld : AddressField) (size : WordField) (s : List �
     made-elided t = ap was_elided sum-made ∙ t
 
     -- an elided checksum is 0 in a first part
-    pub elided-zero : (n : ℕ) → size ≡ WordField.Some n → was_elided e.sum ≡ true → (get_or e.bytes (e.sum.udp + 6) 0 ≡ 0) × (get_or e.bytes (e.sum.udp + 7) 0 ≡ 0)
+    pub elided-zero : (n : ℕ) → size ≡ Some n → was_elided e.sum ≡ true → (get_or e.bytes (e.sum.udp + 6) 0 ≡ 0) × (get_or e.bytes (e.sum.udp + 7) 0 ≡ 0)
     unfolding bytes_of
     elided-zero n q t =
         let b : e.bytes ≡ full_bytes n 0 made.found = sym (ap (λ x. x.bytes) made.is_made) ∙ rw q refl in
@@ -196,7 +196,7 @@ module _ (ctx : List ℕ) (ls ld : AddressField) (size : WordField) (s : List �
         (ap (λ x. get_or x (e.sum.udp + 6) 0) b ∙ ap (λ v. get_or (full_bytes n 0 made.found) v 0) (sym (f 6)) ∙ z.0, ap (λ x. get_or x (e.sum.udp + 7) 0) b ∙ ap (λ v. get_or (full_bytes n 0 made.found) v 0) (sym (f 7)) ∙ z.1)
 
     -- a whole datagram has the computed one
-    pub elided-summed : size ≡ WordField.None → was_elided e.sum ≡ true → e.bytes ≡ summed_at e.sum.ip e.sum.udp (full_bytes (size_of made.found) 0 made.found)
+    pub elided-summed : size ≡ None → was_elided e.sum ≡ true → e.bytes ≡ summed_at e.sum.ip e.sum.udp (full_bytes (size_of made.found) 0 made.found)
     unfolding bytes_of summed_by
     elided-summed q t =
         let c = made.found in
@@ -210,7 +210,7 @@ module _ (ctx : List ℕ) (ls ld : AddressField) (size : WordField) (s : List �
         sym (ap (λ x. x.bytes) made.is_made) ∙ rw q (ap (λ u. summed_by u d) sum-made ∙ rw w refl)
 
     -- and a receiver finds it right: the sum over the pseudo-header of the IPv6 header just outside, the UDP header and its data is all ones
-    pub sum-holds : size ≡ WordField.None → was_elided e.sum ≡ true → Bytes e.bytes → let x = seen e.sum.ip e.sum.udp e.bytes in ones_sum (words (pseudo x ++ drop 40 x)) ≡ 0xffff
+    pub sum-holds : size ≡ None → was_elided e.sum ≡ true → Bytes e.bytes → let x = seen e.sum.ip e.sum.udp e.bytes in ones_sum (words (pseudo x ++ drop 40 x)) ≡ 0xffff
     sum-holds q t b =
         let c = made.found in
         let d = full_bytes (size_of c) 0 c in
@@ -232,7 +232,7 @@ refused-unwritten (is e) room n q = go (leb (length e.bytes) (length room)) q
     go false g = refl
 
 -- in room for 455 bytes the answer is that of measuring, and the bytes stand at the front
-module _ (ctx : List ℕ) (ls ld : AddressField) (size : WordField) (s : List ℕ) (at : ℕ) (room : List ℕ) (big : 455 ≤ length room) where
+module _ (ctx : List ℕ) (ls ld : Option Address) (size : Option ℕ) (s : List ℕ) (at : ℕ) (room : List ℕ) (big : 455 ≤ length room) where
   pub room-enough : answered (expansion ctx ls ld size s at) room ≡ measured (expansion ctx ls ld size s at)
   room-enough = go (expansion ctx ls ld size s at) refl
     where

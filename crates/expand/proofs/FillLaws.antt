@@ -1,10 +1,12 @@
 -- The datagram as it is decided, measured and written, from what the walk over its headers says.
+use Rattle.ieee802154.specs.declared.addr.Address.{Address}
+use Rattle.std.specs.Prelude.{Result, Ok, Err, Option}
 use Prim.Native.Nat.{ℕ, ◌+◌, ◌-◌, ◌≤◌, ◌<◌}
 use native.Mathlib.Nat.{zero-add}
 use native.Mathlib.Omega.{arith}
 use mathlib.Core.List.{List, ◌++◌}
 use mathlib.Core.Bool.{Bool, true, false}
-use mathlib.Core.Path.{◌≡◌, refl, sym, ap, subst, ◌∙◌}
+use mathlib.Core.Path.{◌≡◌, refl, sym, ap, ◌∙◌}
 use lib.ListN.{length, take, drop, replicate, length-append}
 use lib.Seq.{take-append_seam}
 use lib.Dec.{leb}
@@ -13,16 +15,14 @@ use Rattle.octets.specs.Read.{Answer, is, refused, Read, and_then, choose}
 use Rattle.octets.specs.Refusal.{number_of}
 use Rattle.octets.specs.Write.{put, over}
 use Rattle.octets.specs.declared.refusal.Refusal.{Refusal}
-use Rattle.octets.specs.declared.field.WordField.{WordField}
 use Rattle.octets.proofs.Spans.{not-refused}
 use Rattle.octets.proofs.Puts.{put_front}
-use Rattle.ieee802154.specs.declared.addr.AddressField.{AddressField}
 use Rattle.expand.specs.Full.{ipv6_with, udp_full}
-use Rattle.expand.specs.Expand.{Expansion, of_expanded, measure_of, finished, finished_in, bytes_of, sized, expansion, measured, answered, written, filled, Fills}
+use Rattle.expand.specs.Expand.{Expansion, of_expanded, measure_of, finished, finished_in, bytes_of, sized, expansion, measured, answered, written, filled}
 use Rattle.expand.specs.Chain.{Chain, rest, udp_then, extension, ipv6, chained, head_number, full_size, ext_full, size_of, full_bytes, sum_in, total_in, total_of, Measure}
-use Rattle.expand.specs.Walk.{start, of_walked, ending, end_of, put_ahead, PutsAhead, Ends}
+use Rattle.expand.specs.Walk.{start, of_walked, ending, end_of, put_ahead, Ends}
 use Rattle.expand.specs.declared.checksum.UdpSum.{UdpSum}
-use Rattle.expand.specs.declared.chain.Walked.{Walked}
+use Rattle.expand.specs.declared.chain.End.{End}
 use Rattle.expand.specs.declared.datagram.Expanded.{Expanded}
 use Rattle.expand.proofs.Inverting.{value-is}
 use Rattle.expand.proofs.FullLaws.{length-ipv6, length-udp, length-ext}
@@ -42,13 +42,13 @@ length-full t o (ipv6 h c) =
     ∙ ap (λ x. x + length (full_bytes t (o + 40) c)) (length-ipv6 h (head_number c) (t - (o + 40)))
     ∙ ap (λ x. 40 + x) (length-full t (o + 40) c)
 
-pub length-bytes : (size : WordField) (c : Chain) → length (bytes_of size c) ≡ size_of c
+pub length-bytes : (size : Option ℕ) (c : Chain) → length (bytes_of size c) ≡ size_of c
 unfolding bytes_of
 length-bytes size c = finished-length size (sum_in false 0 0 c) (full_bytes (total_of size (size_of c)) 0 c) ∙ length-full (total_of size (size_of c)) 0 c
 
 -- ---- what the walk says
 -- a chain c, in a room: the answer is that of the walk's end
-ended : (size : WordField) (c : Chain) (room : List ℕ) → ending size start (length room) c ≡ answered (sized size c) room
+ended : (size : Option ℕ) (c : Chain) (room : List ℕ) → ending size start (length room) c ≡ answered (sized size c) room
 unfolding total_in sized
 ended size c room = rw (zero-add (size_of c)) (go (leb (size_of c) (total_of size (size_of c))))
   where
@@ -60,12 +60,12 @@ ended size c room = rw (zero-add (size_of c)) (go (leb (size_of c) (total_of siz
     go true = rw (length-bytes size c) (told (leb (size_of c) (length room)))
     go false = refl
 
-read-ended : (size : WordField) (m : Read Chain) (room : List ℕ) → end_of size start (length room) m ≡ answered (and_then m (λ p. sized size p.value)) room
+read-ended : (size : Option ℕ) (m : Read Chain) (room : List ℕ) → end_of size start (length room) m ≡ answered (and_then m (λ p. sized size p.value)) room
 read-ended size (is p) room = ended size p.value room
 read-ended size (refused n) room = refl
 
 -- the bytes of a chain c, put into a room that has enough, with its checksum
-module _ (size : WordField) (c : Chain) (len : ℕ) (u : UdpSum) (room n out : List ℕ) (b : n ≡ put 0 (full_bytes (total_of size len) 0 c) room) (q : out ≡ finished_in size u len n) where
+module _ (size : Option ℕ) (c : Chain) (len : ℕ) (u : UdpSum) (room n out : List ℕ) (b : n ≡ put 0 (full_bytes (total_of size len) 0 c) room) (q : out ≡ finished_in size u len n) where
   fits-written : length (bytes_of size c) ≤ length room → len ≡ length (bytes_of size c) → u ≡ sum_in false 0 0 c → out ≡ over (length (bytes_of size c)) (bytes_of size c) room
   unfolding bytes_of
   fits-written enough len_is sum_is_lem =
@@ -93,7 +93,7 @@ module _ (size : WordField) (c : Chain) (len : ℕ) (u : UdpSum) (room n out : L
       go true w = fits (leb (length (bytes_of size c)) (length room)) refl w
 
 -- ---- the frame as a whole
-module _ (ctx : List ℕ) (ls ld : AddressField) (size : WordField) (s : List ℕ) (at : ℕ) where
+module _ (ctx : List ℕ) (ls ld : Option Address) (size : Option ℕ) (s : List ℕ) (at : ℕ) where
   abbrev whole : Answer Expansion
   whole = expansion ctx ls ld size s at
 
@@ -101,27 +101,27 @@ module _ (ctx : List ℕ) (ls ld : AddressField) (size : WordField) (s : List �
   unfolding expansion
   expansion-long k = rw (lt-ltb 127 (length s) k) refl
 
-  module _ (short : length s ≤ 127) (y : Walked) (room n : List ℕ) (W : Ends y start size (chained ctx ls ld s at) room n) where
+  module _ (short : length s ≤ 127) (room n : List ℕ) where
     expansion-is : whole ≡ and_then (chained ctx ls ld s at) (λ p. sized size p.value)
     unfolding expansion
     expansion-is = rw (le-ltb 127 (length s) short) refl
 
-    answer-is : of_walked y ≡ answered whole room
-    answer-is = W.answer ∙ read-ended size (chained ctx ls ld s at) room ∙ ap (λ m. answered m room) (sym expansion-is)
+    answer-is : (y : Result End Refusal) → Ends y start size (chained ctx ls ld s at) room n → of_walked y ≡ answered whole room
+    answer-is y W = W.answer ∙ read-ended size (chained ctx ls ld s at) room ∙ ap (λ m. answered m room) (sym expansion-is)
 
-    pub walk_refused : (e : Refusal) → y ≡ Walked.Refused e → refused (number_of e) ≡ answered whole room
-    walk_refused e g = ap of_walked (sym g) ∙ answer-is
+    pub walk_refused : (e : Refusal) → Ends (Err e) start size (chained ctx ls ld s at) room n → refused (number_of e) ≡ answered whole room
+    walk_refused e W = answer-is (Err e) W
 
-    module _ (len : ℕ) (u : UdpSum) (g : y ≡ Walked.End len u) where
-      pub walk-answered : is (record { len = len; sum = u }) ≡ answered whole room
-      walk-answered = ap of_walked (sym g) ∙ answer-is
+    module _ (x : End) (W : Ends (Ok x) start size (chained ctx ls ld s at) room n) where
+      pub walk-answered : is (record { len = x.len; sum = x.sum }) ≡ answered whole room
+      walk-answered = answer-is (Ok x) W
 
-      pub walk-written : (out : List ℕ) → out ≡ finished_in size u len n → out ≡ written whole room
-      walk-written out q = go (chained ctx ls ld s at) (subst (λ v. PutsAhead v size start (chained ctx ls ld s at) room n) g W.bytes) (walk-answered ∙ ap (λ m. answered m room) expansion-is) ∙ ap (λ m. written m room) (sym expansion-is)
+      pub walk-written : (out : List ℕ) → out ≡ finished_in size x.sum x.len n → out ≡ written whole room
+      walk-written out q = go (chained ctx ls ld s at) W.bytes (walk-answered ∙ ap (λ m. answered m room) expansion-is) ∙ ap (λ m. written m room) (sym expansion-is)
         where
-          go : (r : Read Chain) → n ≡ put_ahead (total_of size len) start r room → is (record { len = len; sum = u }) ≡ answered (and_then r (λ p. sized size p.value)) room → out ≡ written (and_then r (λ p. sized size p.value)) room
+          go : (r : Read Chain) → n ≡ put_ahead (total_of size x.len) start r room → is (record { len = x.len; sum = x.sum }) ≡ answered (and_then r (λ p. sized size p.value)) room → out ≡ written (and_then r (λ p. sized size p.value)) room
           go (refused k) b w = not-refused _ k (sym w)
-          go (is p) b w = chain-written size p.value len u room n out b q w
+          go (is p) b w = chain-written size p.value x.len x.sum room n out b q w
 
 -- ---- a room that is cleared
 module _ (m : Answer Expansion) (room l : List ℕ) where
@@ -150,10 +150,8 @@ module _ (m : Answer Expansion) (room l : List ℕ) where
           fits true g c = c
           fits false g c = not-refused _ 7 (sym g)
 
-  pub filled_on : (y : Expanded) (n : ℕ) (u : UdpSum) → y ≡ Expanded.Datagram n u → of_expanded y ≡ answered m room → Fills y m room l → (is (record { len = n; sum = u }) ≡ answered m room) × (l ≡ filled m room)
-  filled_on y n u g q c =
-      let a : is (record { len = n; sum = u }) ≡ answered m room = ap of_expanded (sym g) ∙ q in
-      (a, filled-go (record { len = n; sum = u }) a (subst (λ z. Fills z m room l) g c))
+  pub filled_on : (x : Expanded) → of_expanded (Ok x) ≡ answered m room → l ≡ written m room → l ≡ filled m room
+  filled_on x q c = filled-go (record { len = x.len; sum = x.sum }) q c
 
 -- ---- from a room of its own to an output
 pub copied-refused : (m : Answer Expansion) (room out : List ℕ) (e : ℕ) → answered m room ≡ measured m → refused e ≡ answered m room → (refused e ≡ answered m out) × (out ≡ written m out)

@@ -1,7 +1,7 @@
 -- What a step that gave a value says of the steps that it is made of.
 use Prim.Native.Nat.{ℕ}
 use mathlib.Core.Path.{◌≡◌, refl, ap}
-use Rattle.octets.specs.Read.{Answer, is, refused, Read, got, and_then}
+use Rattle.octets.specs.Read.{Answer, is, refused, Read, got, and_then, value_or}
 use Rattle.octets.proofs.Spans.{not-refused}
 
 -- ---- a value that two steps gave, the second on that of the first
@@ -13,10 +13,6 @@ pub record Inverted {A B : Type 0} (m : Answer A) (k : A → Answer B) (b : B) :
 pub invert : {A B : Type 0} (m : Answer A) (k : A → Answer B) (b : B) → and_then m k ≡ is b → Inverted m k b
 invert (is a) k b e = record { value = a; first = refl; second = e }
 invert (refused n) k b e = not-refused _ n e
-
-abbrev value_or : {A : Type 0} → A → Read A → A
-value_or x (is p) = p.value
-value_or x (refused n) = x
 
 abbrev next_or : {A : Type 0} → Read A → ℕ
 next_or (is p) = p.next

@@ -1,4 +1,6 @@
 -- Every expansion passes RFC 8200's own rules (specs/Rfc8200.antt), and has at most eight headers.
+use Rattle.ieee802154.specs.declared.addr.Address.{Address}
+use Rattle.std.specs.Prelude.{Option, Some, None}
 use Prim.Native.Nat.{ℕ, zero, suc, ◌+◌, ◌-◌, ◌/◌, ◌%◌, ◌≤◌, ◌<◌}
 use native.Mathlib.Omega.{arith}
 use mathlib.Core.List.{List, ◌∷◌, ◌++◌}
@@ -10,10 +12,8 @@ use lib.Dec.{eqb, leb}
 use borrow.Author.Tests.{le-leb, eq-eqb}
 use Rattle.octets.specs.Read.{Reader, got, is, refused, and_then, choose, byte, refuse}
 use Rattle.octets.specs.Write.{put, byte_bytes, be16_bytes, be32_bytes}
-use Rattle.octets.specs.declared.field.WordField.{WordField}
 use Rattle.octets.proofs.Spans.{not-refused}
 use Rattle.octets.proofs.Steps.{and-true}
-use Rattle.ieee802154.specs.declared.addr.AddressField.{AddressField}
 use Rattle.iphc.specs.Iphc.{iphc}
 use Rattle.iphc.specs.Shortest.{Bytes}
 use Rattle.iphc.specs.declared.header.Repr.{Repr}
@@ -139,7 +139,7 @@ reads-chain (ipv6 h c) t o w =
 
 -- ---- with another checksum x in its UDP header: the list is the same, and the bytes are but for those two
 abbrev summed_udp : UdpNhcRepr → ℕ → UdpNhcRepr
-summed_udp h x = record { src_port = h.src_port; dst_port = h.dst_port; checksum = WordField.Some x }
+summed_udp h x = record { src_port = h.src_port; dst_port = h.dst_port; checksum = Some x }
 
 unfoldable with_sum : ℕ → Chain → Chain
 with_sum x (rest p d) = rest p d
@@ -238,10 +238,10 @@ passes-summed : (t : ℕ) (c : Chain) → Proper c → Passes t c (summed_by (su
 unfolding summed_by
 passes-summed t c w = summed-go t c _ w refl
 
-passes-bytes : (size : WordField) (c : Chain) → Proper c → Passes (total_of size (size_of c)) c (bytes_of size c)
+passes-bytes : (size : Option ℕ) (c : Chain) → Proper c → Passes (total_of size (size_of c)) c (bytes_of size c)
 unfolding bytes_of
-passes-bytes WordField.None c w = passes-summed (size_of c) c w
-passes-bytes (WordField.Some n) c w = passes-full n c w
+passes-bytes None c w = passes-summed (size_of c) c w
+passes-bytes (Some n) c w = passes-full n c w
 
 -- ---- a chain that was read: of the headers that were left, and proper
 abbrev Listed : Link → Type 0
@@ -322,7 +322,7 @@ unfolding behind_next
 behind-sound left s m f v (Uncompressed p) from d k e = subst (Sound left s) (got-value (rest p.0 (drop from s)) d from k e) (rest-sound left s p.0 (drop from s))
 behind-sound left s m f v Compressed from d k e = f v from d k e
 
-header-sound : (left : ℕ) (ctx s : List ℕ) (ls ld : AddressField) (m : Around → Reader Chain) → Sounds left s m → (at : ℕ) (c : Chain) (n : ℕ) → header_then ctx ls ld m s at ≡ got c n → Sound (suc left) s c
+header-sound : (left : ℕ) (ctx s : List ℕ) (ls ld : Option Address) (m : Around → Reader Chain) → Sounds left s m → (at : ℕ) (c : Chain) (n : ℕ) → header_then ctx ls ld m s at ≡ got c n → Sound (suc left) s c
 unfolding header_then
 header-sound left ctx s ls ld m f at c n e =
     let i = invert (iphc ctx ls ld s at) (λ p. and_then (behind_next p.value.next_header (m (within p.value)) s p.next) (λ q. got (ipv6 p.value q.value) q.next)) _ e in
@@ -363,12 +363,12 @@ chain-sound (suc left) ctx s w at c n e =
     let i = invert (link (suc left) s at) (λ p. onward ctx (chain left ctx) w p.value s p.next) _ (sym (chain-is (suc left) ctx w s at) ∙ e) in
     onward-sound left ctx s (chain left ctx) (chain-sound left ctx s) w i.value.value i.value.next c n (link-listed (suc left) s at i.value.value i.value.next i.first) i.second
 
-chained-sound : (ctx : List ℕ) (ls ld : AddressField) (s : List ℕ) (at : ℕ) (c : Chain) (n : ℕ) → chained ctx ls ld s at ≡ got c n → Sound 8 s c
+chained-sound : (ctx : List ℕ) (ls ld : Option Address) (s : List ℕ) (at : ℕ) (c : Chain) (n : ℕ) → chained ctx ls ld s at ≡ got c n → Sound 8 s c
 unfolding chained
 chained-sound ctx ls ld s at c n e = header-sound 7 ctx s ls ld (chain 7 ctx) (chain-sound 7 ctx s) at c n e
 
 -- ---- at most eight headers, the outer one counted, UDP and the payload not
-pub eight-headers : (ctx : List ℕ) (ls ld : AddressField) (s : List ℕ) (at : ℕ) (c : Chain) (n : ℕ) → chained ctx ls ld s at ≡ got c n → length (numbers_of c) ≤ 8
+pub eight-headers : (ctx : List ℕ) (ls ld : Option Address) (s : List ℕ) (at : ℕ) (c : Chain) (n : ℕ) → chained ctx ls ld s at ≡ got c n → length (numbers_of c) ≤ 8
 eight-headers ctx ls ld s at c n e = (chained-sound ctx ls ld s at c n e).few
 
 -- ---- every expansion of a frame of bytes is a datagram by RFC 8200's own rules, whose next headers are those of the chain that was read
@@ -378,13 +378,13 @@ starts-ipv6 c t b o h =
     subst (λ z. Passes t z b → is_datagram (numbers_of z) (last_of z) t b ≡ true) o.is-both
     (λ p. both (le-leb (length b) t h) p)
 
-pub record ReadsBack (ctx : List ℕ) (ls ld : AddressField) (size : WordField) (s : List ℕ) (at : ℕ) (b : List ℕ) : Type 0 where
+pub record ReadsBack (ctx : List ℕ) (ls ld : Option Address) (size : Option ℕ) (s : List ℕ) (at : ℕ) (b : List ℕ) : Type 0 where
   pub found : Chain
   pub place : ℕ
   pub are-read : chained ctx ls ld s at ≡ got found place
   pub is-datagram : is_datagram (numbers_of found) (last_of found) (total_of size (length b)) b ≡ true
 
-module _ (ctx : List ℕ) (ls ld : AddressField) (size : WordField) (s : List ℕ) (at : ℕ) (e : Expansion) where
+module _ (ctx : List ℕ) (ls ld : Option Address) (size : Option ℕ) (s : List ℕ) (at : ℕ) (e : Expansion) where
   made-passes : Made ctx ls ld size s at e → Bytes s → ReadsBack ctx ls ld size s at e.bytes
   made-passes made frame =
       let c = made.found in

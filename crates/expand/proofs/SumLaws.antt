@@ -217,17 +217,6 @@ module _ (i u : ℕ) (d : List ℕ) (apart : i + 40 ≤ u) (low : u + 8 ≤ leng
     at_ones = rw (← left_is) (checksum-ones (seen i u d) (omega (arith, length_seen)) (omega (arith, length_seen)) (a + p) b heads-are data-are fits (bytes-seen bytes))
 
 -- where the two headers stand
-pub stands-so : {r : Bool} (m : UdpSum) (n : ℕ) → m.ip + 40 ≤ m.udp → m.udp + 8 ≤ n → r ≡ leb n (m.udp + 65535) → r ≡ stands m n
-stands-so m n a b e = rw (le-leb (m.ip + 40) m.udp a, le-leb (m.udp + 8) n b) e
-
-pub stands-short : (m : UdpSum) (n : ℕ) → m.ip + 40 ≤ m.udp → n < m.udp + 8 → false ≡ stands m n
-stands-short m n a b = rw (le-leb (m.ip + 40) m.udp a, lt-leb (m.udp + 8) n b) refl
-
-pub stands-not : (m : UdpSum) (n : ℕ) → m.udp < m.ip + 40 → false ≡ stands m n
-stands-not m n a = rw (lt-leb (m.ip + 40) m.udp a) refl
-
-pub ruleset stood = (stands-so, stands-short, stands-not)
-
 pub stands-facts : (m : UdpSum) (n : ℕ) → stands m n ≡ true → (m.ip + 40 ≤ m.udp) × (m.udp + 8 ≤ n) × (n ≤ m.udp + 65535)
 stands-facts m n h =
     let a = and-true (leb (m.ip + 40) m.udp) _ h in

@@ -1,4 +1,6 @@
 -- The walk over the headers of a frame, in code: each step of it comes to the same as what was to be read before it.
+use Rattle.ieee802154.specs.declared.addr.Address.{Address}
+use Rattle.std.specs.Prelude.{Result, Ok, Err, Option}
 use Prim.Native.Nat.{ℕ, suc, ◌+◌, ◌-◌, ◌*◌, ◌≤◌, ◌<◌}
 use native.Mathlib.Nat.{add_assoc}
 use native.Mathlib.Omega.{arith}
@@ -8,20 +10,16 @@ use mathlib.Core.Path.{◌≡◌, refl, sym, ap, subst, ◌∙◌}
 use lib.ListN.{length, get_or, set, take, drop}
 use lib.Seq.{set-set, take-suc, take-suc-set, get_or-set_same, get_or-set_other}
 use lib.Dec.{eqb, leb}
-use borrow.Author.Tests.{eqb-true, eqb-false, le-leb, lt-leb}
+use borrow.Author.Tests.{eqb-true, eqb-false}
 use Rattle.octets.specs.Read.{Answer, is, refused, Read, got, and_then, choose}
 use Rattle.octets.specs.Refusal.{number_of}
 use Rattle.octets.specs.Write.{put, byte_bytes, be16_bytes, be32_bytes}
 use Rattle.octets.specs.declared.refusal.Refusal.{Refusal}
-use Rattle.octets.specs.declared.field.WordField.{WordField}
 use Rattle.octets.specs.declared.cursor.Cursor.{Cursor}
 use Rattle.octets.proofs.Spans.{not-refused}
 use Rattle.octets.proofs.Puts.{more, put-append, put-none}
-use Rattle.ieee802154.specs.declared.addr.AddressField.{AddressField}
 use Rattle.iphc.specs.Iphc.{iphc}
-use Rattle.iphc.specs.Answers.{of_parsed}
 use Rattle.iphc.specs.declared.header.Repr.{Repr}
-use Rattle.iphc.specs.declared.header.Parsed.{Parsed}
 use Rattle.iphc.specs.declared.read.LinkAddresses.{LinkAddresses}
 use Rattle.sixlowpan.specs.declared.protocol.NextHeader.{NextHeader}
 use Rattle.sixlowpan.specs.declared.protocol.NextHeader.TheVariants.{Compressed, Uncompressed}
@@ -29,17 +27,15 @@ use Rattle.sixlowpan.specs.declared.nhc.UdpNhcRepr.{UdpNhcRepr}
 use Rattle.expand.specs.Full.{is_absent, first_word, front_with, both_bytes, ipv6_with, udp_full, keep, kept_full}
 use Rattle.expand.specs.Sum.{no_sum}
 use Rattle.expand.specs.Chain.{Chain, rest, udp_then, extension, ipv6, Link, udp_link, inner_link, link, within, past, behind_next, header_then, udp_end, onward, chain, chained, next_number, head_number, full_size, ext_full, size_of, full_bytes, sum_for, sum_in, Measure, total_of, total_in}
-use Rattle.expand.specs.Walk.{ext_bytes, ext_of, of_link, is_compressed, kept, of_kept, of_total, start, passed, entered, fewer, around, identified, ahead_of, Room, ending, end_of, put_ahead, patch, patches, NotInner, ahead, of_walked, Onward, Reaches, Lays, Ends, PutsAhead}
+use Rattle.expand.specs.Walk.{ext_bytes, ext_of, step_link, is_compressed, kept, start, passed, entered, fewer, around, identified, ahead_of, Room, ending, end_of, put_ahead, patch, patches, NotInner, ahead, of_walked, Onward, Refuses, Comes, Reaches, Lies, Ends}
 use Rattle.expand.specs.declared.checksum.UdpSum.{UdpSum}
 use Rattle.expand.specs.declared.ip.Kept.{Kept}
 use Rattle.expand.specs.declared.chain.Extension.{Extension}
-use Rattle.expand.specs.declared.chain.KeptRead.{KeptRead}
 use Rattle.expand.specs.declared.chain.Step.{Step}
 use Rattle.expand.specs.declared.chain.Way.{Way}
 use Rattle.expand.specs.declared.chain.Last.{Last}
 use Rattle.expand.specs.declared.chain.Reached.{Reached}
-use Rattle.expand.specs.declared.chain.Walked.{Walked}
-use Rattle.expand.specs.declared.chain.TotalAnswer.{TotalAnswer}
+use Rattle.expand.specs.declared.chain.End.{End}
 use Rattle.expand.proofs.Inverting.{invert, value-is}
 use Rattle.expand.proofs.CopyLaws.{set-put, put-before}
 use Rattle.expand.proofs.FullLaws.{length-ipv6, length-udp, length-ext, taken-length, kept_full_lem}
@@ -126,7 +122,7 @@ onward-fewer w m l = record { answer = λ size n. refl; bytes = λ t. go t m }
     go t (refused n) = refl
 
 -- ---- an extension header
-ending-ext : (size : WordField) (w : Way) (x : ℕ) (d : List ℕ) (c : Chain) (n : ℕ) → ending size w n (extension x d c) ≡ ending size (passed x (length d) w) n c
+ending-ext : (size : Option ℕ) (w : Way) (x : ℕ) (d : List ℕ) (c : Chain) (n : ℕ) → ending size w n (extension x d c) ≡ ending size (passed x (length d) w) n c
 unfolding size_of sum_in
 ending-ext size w x d c n = ap (λ z. and_then (total_in size z n) (λ t. is (record { len = z; sum = sum_in (eqb x 43 || w.routed) w.ip (w.at + full_size (length d)) c }))) (sym (add_assoc w.at (full_size (length d)) (size_of c)))
 
@@ -146,7 +142,7 @@ ext-on w x y d (is p) l o f a =
     }
 
 -- ---- an IPv6 header
-ending-ipv6 : (size : WordField) (w : Way) (h : Repr) (c : Chain) (n : ℕ) → ending size w n (ipv6 h c) ≡ ending size (entered h.src_addr.iid h.dst_addr.iid w) n c
+ending-ipv6 : (size : Option ℕ) (w : Way) (h : Repr) (c : Chain) (n : ℕ) → ending size w n (ipv6 h c) ≡ ending size (entered h.src_addr.iid h.dst_addr.iid w) n c
 unfolding size_of sum_in
 ending-ipv6 size w h c n = ap (λ z. and_then (total_in size z n) (λ t. is (record { len = z; sum = sum_in false w.at (w.at + 40) c }))) (sym (add_assoc w.at 40 (size_of c)))
 
@@ -177,58 +173,56 @@ module _ (w : Way) (ctx s l : List ℕ) (next : NextHeader) (at : ℕ) where
       go (Uncompressed p) e = record { answer = λ size n. refl; bytes = λ t. refl }
       go Compressed e = absurd (true≢false e)
 
-  module _ (y : Step) (q : is_compressed next ≡ true) (p : of_link y s ≡ link w.left s at) where
+  module _ (q : is_compressed next ≡ true) where
     -- where a step was read, the chain is what is behind it
-    step_is : (k : Link) (n : ℕ) → of_link y s ≡ got k n → ahead-next ≡ onward ctx (shorter w.left ctx) (around w) k s n
+    step_is : (k : Link) (n : ℕ) → got k n ≡ link w.left s at → ahead-next ≡ onward ctx (shorter w.left ctx) (around w) k s n
     unfolding behind_next
     step_is k n g = go next q
       where
         go : (z : NextHeader) → is_compressed z ≡ true → behind_next z (chain w.left ctx (around w)) s at ≡ onward ctx (shorter w.left ctx) (around w) k s n
         go (Uncompressed x) e = absurd (true≢false (sym e))
-        go Compressed e = chain-is w.left ctx (around w) s at ∙ rw (sym p ∙ g) refl
+        go Compressed e = chain-is w.left ctx (around w) s at ∙ rw (sym g) refl
 
-    pub at-refused : (e : Refusal) → y ≡ Step.Refused e → Onward [] w ahead-next l w (refused (number_of e)) l
+    pub at-refused : (e : Refusal) → refused (number_of e) ≡ link w.left s at → Onward [] w ahead-next l w (refused (number_of e)) l
     unfolding behind_next
     at-refused e g = onward-same w ahead-next (refused (number_of e)) l (go next q)
       where
         go : (z : NextHeader) → is_compressed z ≡ true → behind_next z (chain w.left ctx (around w)) s at ≡ refused (number_of e)
         go (Uncompressed x) e = absurd (true≢false (sym e))
-        go Compressed e = chain-is w.left ctx (around w) s at ∙ rw (sym p ∙ ap (λ z. of_link z s) g) refl
+        go Compressed e = chain-is w.left ctx (around w) s at ∙ rw (sym g) refl
 
-    pub at-udp : (c : Cursor) (h : UdpNhcRepr) → y ≡ Step.Udp c h → Onward [] w ahead-next l w (udp_end (around w) h s c.at) l
-    unfolding onward
-    at-udp c h g = onward-same w ahead-next (udp_end (around w) h s c.at) l (step_is (udp_link h) c.at (ap (λ z. of_link z s) g))
+    module _ (y : Step) (p : step_link y s ≡ link w.left s at) where
+      pub at-udp : (c : Cursor) (h : UdpNhcRepr) → y ≡ Step.Udp c h → Onward [] w ahead-next l w (udp_end (around w) h s c.at) l
+      unfolding onward
+      at-udp c h g = onward-same w ahead-next (udp_end (around w) h s c.at) l (step_is (udp_link h) c.at (ap (λ z. step_link z s) (sym g) ∙ p))
 
-    pub at_inner : (c : Cursor) → y ≡ Step.Inner c → Onward [] w ahead-next l w (header_then ctx (identified w.src) (identified w.dst) (chain (w.left - 1) ctx) s c.at) l
-    unfolding onward
-    at_inner c g =
-        let k : 1 ≤ w.left = (link-steps w.left s at inner_link c.at (sym p ∙ ap (λ z. of_link z s) g)).wants in
-        onward-same w ahead-next _ l (step_is inner_link c.at (ap (λ z. of_link z s) g) ∙ ap (λ z. header_then ctx (identified w.src) (identified w.dst) z s c.at) (shorter-is w.left ctx k))
+      pub at_inner : (c : Cursor) → y ≡ Step.Inner c → Onward [] w ahead-next l w (header_then ctx (identified w.src) (identified w.dst) (chain (w.left - 1) ctx) s c.at) l
+      unfolding onward
+      at_inner c g =
+          let k : 1 ≤ w.left = (link-steps w.left s at inner_link c.at (sym p ∙ ap (λ z. step_link z s) g)).wants in
+          onward-same w ahead-next _ l (step_is inner_link c.at (ap (λ z. step_link z s) (sym g) ∙ p) ∙ ap (λ z. header_then ctx (identified w.src) (identified w.dst) z s c.at) (shorter-is w.left ctx k))
 
-    -- an extension header was put, and the walk goes on behind it
-    pub at-ext : (x : Extension) (v : Way) (len : ℕ) (o : List ℕ) → y ≡ Step.Extension x → len ≡ x.to.at - x.from.at → v ≡ passed x.number len w → o ≡ put w.at (ext_full (next_number x.next s x.to.at) (ext_bytes x s)) l
-        → Onward [] w ahead-next l v (behind_next x.next (chain v.left ctx (around v)) s x.to.at) o
-    unfolding onward
-    at-ext x v len o g e i a =
-        let t = link-steps w.left s at (ext_of x s) x.to.at (sym p ∙ ap (λ z. of_link z s) g) in
-        let d = ext_bytes x s in
-        let long : length d ≡ len = taken-length s x.from.at (x.to.at - x.from.at) (omega (arith, t.ends)) ∙ sym e in
-        let m = behind_next x.next (chain (w.left - 1) ctx (past x.number (around w))) s x.to.at in
-        let same : ahead-next ≡ and_then m (λ p. got (extension x.number d p.value) p.next) = step_is (ext_of x s) x.to.at (ap (λ z. of_link z s) g) ∙ ap (λ z. onward ctx z (around w) (ext_of x s) s x.to.at) (shorter-is w.left ctx t.wants) in
-        let on : Onward [] w (and_then m (λ p. got (extension x.number d p.value) p.next)) l (passed x.number (length d) w) m o = ext-on w x.number (next_number x.next s x.to.at) d m l o (λ c j h. number_read x.next (w.left - 1) ctx (past x.number (around w)) s x.to.at c j h) a in
-        subst (λ z. Onward [] w ahead-next l z (behind_next x.next (chain z.left ctx (around z)) s x.to.at) o) (ap (λ z. passed x.number z w) long ∙ sym i)
-        (subst (λ z. Onward [] w z l (passed x.number (length d) w) m o) (sym same) on)
+      -- an extension header was put, and the walk goes on behind it
+      pub at-ext : (x : Extension) (v : Way) (len : ℕ) (o : List ℕ) → y ≡ Step.Extension x → len ≡ x.to.at - x.from.at → v ≡ passed x.number len w → o ≡ put w.at (ext_full (next_number x.next s x.to.at) (ext_bytes x s)) l
+          → Onward [] w ahead-next l v (behind_next x.next (chain v.left ctx (around v)) s x.to.at) o
+      unfolding onward
+      at-ext x v len o g e i a =
+          let t = link-steps w.left s at (ext_of x s) x.to.at (sym p ∙ ap (λ z. step_link z s) g) in
+          let d = ext_bytes x s in
+          let long : length d ≡ len = taken-length s x.from.at (x.to.at - x.from.at) (omega (arith, t.ends)) ∙ sym e in
+          let m = behind_next x.next (chain (w.left - 1) ctx (past x.number (around w))) s x.to.at in
+          let same : ahead-next ≡ and_then m (λ p. got (extension x.number d p.value) p.next) = step_is (ext_of x s) x.to.at (ap (λ z. step_link z s) (sym g) ∙ p) ∙ ap (λ z. onward ctx z (around w) (ext_of x s) s x.to.at) (shorter-is w.left ctx t.wants) in
+          let on : Onward [] w (and_then m (λ p. got (extension x.number d p.value) p.next)) l (passed x.number (length d) w) m o = ext-on w x.number (next_number x.next s x.to.at) d m l o (λ c j h. number_read x.next (w.left - 1) ctx (past x.number (around w)) s x.to.at c j h) a in
+          subst (λ z. Onward [] w ahead-next l z (behind_next x.next (chain z.left ctx (around z)) s x.to.at) o) (ap (λ z. passed x.number z w) long ∙ sym i)
+          (subst (λ z. Onward [] w z l (passed x.number (length d) w) m o) (sym same) on)
 
 -- ---- an IPv6 header, as it is kept
-module _ (ctx s : List ℕ) (ls ld : AddressField) (at : ℕ) (y : Parsed) (p : of_parsed y ≡ iphc ctx ls ld s at) where
-  pub kept_on : (h : Repr) (d : Cursor) (x w : ℕ) → y ≡ Parsed.Header h d → x ≡ next_number h.next_header s d.at → w ≡ first_word h
+module _ (ctx s : List ℕ) (ls ld : Option Address) (at : ℕ) where
+  pub kept_on : (h : Repr) (d : Cursor) (x w : ℕ) → got h d.at ≡ iphc ctx ls ld s at → x ≡ next_number h.next_header s d.at → w ≡ first_word h
       → is (record { src = h.src_addr; dst = h.dst_addr; first = w; number = x; hops = h.hop_limit; next = h.next_header; behind = d }) ≡ kept ctx ls ld s at
-  kept_on h d x w g a b = rw (sym p ∙ ap of_parsed g, a, b) refl
+  kept_on h d x w g a b = rw (sym g, a, b) refl
 
-  pub kept-no : (e : Refusal) → y ≡ Parsed.Refused e → refused (number_of e) ≡ kept ctx ls ld s at
-  kept-no e g = rw (sym p ∙ ap of_parsed g) refl
-
-pub record Known (ctx s : List ℕ) (ls ld : AddressField) (at : ℕ) (k : Kept) : Type 0 where
+pub record Known (ctx s : List ℕ) (ls ld : Option Address) (at : ℕ) (k : Kept) : Type 0 where
   pub header : Repr
   pub place : ℕ
   pub are-read : iphc ctx ls ld s at ≡ got header place
@@ -238,16 +232,16 @@ unread : {A B : Type 0} (m : Answer A) (f : A → B) (n : ℕ) → refused n ≡
 unread (is x) f n e = not-refused _ n e
 unread (refused k) f n e = cc
 
-module _ (ctx s : List ℕ) (ls ld : AddressField) (at : ℕ) (y : KeptRead) (p : of_kept y ≡ kept ctx ls ld s at) where
-  known : (k : Kept) → y ≡ KeptRead.Header k → Known ctx s ls ld at k
+module _ (ctx s : List ℕ) (ls ld : Option Address) (at : ℕ) where
+  known : (k : Kept) → is k ≡ kept ctx ls ld s at → Known ctx s ls ld at k
   known k g =
-      let i = invert (iphc ctx ls ld s at) (λ q. is (keep q.value (next_number q.value.next_header s q.next) q.next)) k (sym p ∙ ap of_kept g) in
+      let i = invert (iphc ctx ls ld s at) (λ q. is (keep q.value (next_number q.value.next_header s q.next) q.next)) k (sym g) in
       record { header = i.value.value; place = i.value.next; are-read = i.first; is-kept = sym (value-is _ _ i.second) }
 
-  unknown : (e : Refusal) → y ≡ KeptRead.Refused e → iphc ctx ls ld s at ≡ refused (number_of e)
-  unknown e g = unread (iphc ctx ls ld s at) (λ q. keep q.value (next_number q.value.next_header s q.next) q.next) (number_of e) (ap of_kept (sym g) ∙ p)
+  unknown : (e : Refusal) → refused (number_of e) ≡ kept ctx ls ld s at → iphc ctx ls ld s at ≡ refused (number_of e)
+  unknown e g = unread (iphc ctx ls ld s at) (λ q. keep q.value (next_number q.value.next_header s q.next) q.next) (number_of e) g
 
-  pub header-facts : (k : Kept) → y ≡ KeptRead.Header k → (at + 2 ≤ k.behind.at) × (k.behind.at ≤ length s)
+  pub header-facts : (k : Kept) → is k ≡ kept ctx ls ld s at → (at + 2 ≤ k.behind.at) × (k.behind.at ≤ length s)
   header-facts k g =
       let b = known k g in
       subst (λ z. (at + 2 ≤ z.behind.at) × (z.behind.at ≤ length s)) (sym b.is-kept) (iphc-reach ctx ls ld s at b.header b.place b.are-read)
@@ -256,11 +250,11 @@ module _ (ctx s : List ℕ) (ls ld : AddressField) (at : ℕ) (y : KeptRead) (p 
     abbrev ahead-header : Read Chain
     ahead-header = header_then ctx ls ld (chain w.left ctx) s at
 
-    pub header_refused : (e : Refusal) → y ≡ KeptRead.Refused e → Onward (w.at ∷ []) w ahead-header l w (refused (number_of e)) l
+    pub header_refused : (e : Refusal) → refused (number_of e) ≡ kept ctx ls ld s at → Onward (w.at ∷ []) w ahead-header l w (refused (number_of e)) l
     unfolding header_then patches
     header_refused e g = rw (unknown e g) (record { answer = λ size n. refl; bytes = λ t. put-none (w.at + 4) (be16_bytes (t - (w.at + 40))) [] (omega arith) })
 
-    pub header-on : (k : Kept) (v : Way) (o : List ℕ) → y ≡ KeptRead.Header k → v ≡ entered k.src.iid k.dst.iid w → o ≡ put w.at (kept_full k 0) l
+    pub header-on : (k : Kept) (v : Way) (o : List ℕ) → is k ≡ kept ctx ls ld s at → v ≡ entered k.src.iid k.dst.iid w → o ≡ put w.at (kept_full k 0) l
         → Onward (w.at ∷ []) w ahead-header l v (behind_next k.next (chain v.left ctx (around v)) s k.behind.at) o
     unfolding header_then
     header-on k v o g a b =
@@ -292,8 +286,8 @@ module _ (ps : List ℕ) (n o : ℕ) (h : n < length ps) where
   layer-on {w} {v} {x} {m} {k} {j} {l} {p} {q} A B = subst (λ z. Onward z w m l x j q) (sym places-more) (onward_then A B)
 
 -- the last layer is put
-pub lays : {ctx s l p o : List ℕ} {m k : Read Chain} {w : Way} {r : Reached} (ps : List ℕ) (n : ℕ) → n < length ps → ((i : ℕ) → i < n → get_or ps i 0 ≤ 447) → w.at ≤ 447 → n + w.left ≤ 7 → Onward (take n ps) start m l w k p → Reaches ctx r (w.at ∷ []) w k s p o → NotInner r.last
-    → Lays ctx (record { reached = r; count = n + 1 }) m s (set ps n w.at) l o
+pub lays : {ctx s l p o : List ℕ} {m k : Read Chain} {w : Way} {r : Reached} (ps : List ℕ) (n : ℕ) → n < length ps → ((i : ℕ) → i < n → get_or ps i 0 ≤ 447) → w.at ≤ 447 → n + w.left ≤ 7 → Onward (take n ps) start m l w k p → Comes ctx r (w.at ∷ []) w k s p o → NotInner r.last
+    → Lies ctx (record { reached = r; count = n + 1 }) m s (set ps n w.at) l o
 lays {w = w} ps n h f b c A B i = record {
   reaches = record { onward = layer-on ps n w.at h A B.onward; room = B.room; left = omega (arith, c, B.left) };
   outside = i;
@@ -302,13 +296,18 @@ lays {w = w} ps n h f b c A B i = record {
 }
 
 -- in front of the outer header
-pub from_start : (ctx s l : List ℕ) (ls ld : AddressField) (at : ℕ) → Onward [] start (chained ctx ls ld s at) l start (header_then ctx ls ld (chain 7 ctx) s at) l
+pub from_start : (ctx s l : List ℕ) (ls ld : Option Address) (at : ℕ) → Onward [] start (chained ctx ls ld s at) l start (header_then ctx ls ld (chain 7 ctx) s at) l
 unfolding chained
 from_start ctx s l ls ld at = onward-same start _ _ l refl
 
-pub from-outer : (ctx s l o : List ℕ) (ls ld : AddressField) (at : ℕ) (size : WordField) (y : Walked) → Ends y start size (header_then ctx ls ld (chain 7 ctx) s at) l o → Ends y start size (chained ctx ls ld s at) l o
+pub from-outer : (ctx s l o : List ℕ) (ls ld : Option Address) (at : ℕ) (size : Option ℕ) (y : Result End Refusal) → Ends y start size (header_then ctx ls ld (chain 7 ctx) s at) l o → Ends y start size (chained ctx ls ld s at) l o
 unfolding chained
 from-outer ctx s l o ls ld at size y E = E
+
+-- what was reached behind an IPv6 header, from in front of it
+pub reaches-on : {l o : List ℕ} {p : ℕ} {w v : Way} {m k : Read Chain} (ctx s u : List ℕ) (y : Result Reached Refusal) → Onward (p ∷ []) w m l v k o → v.left ≤ w.left → Reaches ctx y [] v k s o u → Reaches ctx y (p ∷ []) w m s l u
+reaches-on ctx s u (Ok r) A h B = record { onward = onward_then A B.onward; room = B.room; left = omega (arith, h, B.left) }
+reaches-on ctx s u (Err e) A h B = λ size n. A.answer size n ∙ B size n
 
 -- an IPv6 header is reached: the next layer
 pub inner-on : {ps l o : List ℕ} {w v : Way} {m : Read Chain} {d : Cursor} {ll : LinkAddresses} (ctx s : List ℕ) (r : Reached) → Onward ps w m l r.way (ahead ctx r s) o → r.last ≡ Last.Inner d → v ≡ fewer r.way → ll ≡ record { src = identified r.way.src; dst = identified r.way.dst }
@@ -323,20 +322,20 @@ pub inner_room : (s : List ℕ) (r : Reached) (d : Cursor) → r.last ≡ Last.I
 inner_room s r d g b = subst (λ z. Room r.way z s) g b
 
 -- ---- how far a step in code reads
-pub ext-facts : {y : Step} {x : Extension} (left : ℕ) (s : List ℕ) (at : ℕ) → of_link y s ≡ link left s at → y ≡ Step.Extension x → (at + 2 + (x.to.at - x.from.at) ≤ x.to.at) × (x.to.at ≤ length s) × (1 ≤ left)
+pub ext-facts : {y : Step} {x : Extension} (left : ℕ) (s : List ℕ) (at : ℕ) → step_link y s ≡ link left s at → y ≡ Step.Extension x → (at + 2 + (x.to.at - x.from.at) ≤ x.to.at) × (x.to.at ≤ length s) × (1 ≤ left)
 ext-facts {x = x} left s at p g =
-    let t = link-steps left s at (ext_of x s) x.to.at (sym p ∙ ap (λ z. of_link z s) g) in
+    let t = link-steps left s at (ext_of x s) x.to.at (sym p ∙ ap (λ z. step_link z s) g) in
     let k : length (ext_bytes x s) ≡ x.to.at - x.from.at = taken-length s x.from.at (x.to.at - x.from.at) (omega (arith, t.ends)) in
     (omega (arith, t.reach, k), t.ends, t.wants)
 
-pub inner-facts : {y : Step} {c : Cursor} (left : ℕ) (s : List ℕ) (at : ℕ) → of_link y s ≡ link left s at → y ≡ Step.Inner c → (at < c.at) × (c.at ≤ length s) × (1 ≤ left)
+pub inner-facts : {y : Step} {c : Cursor} (left : ℕ) (s : List ℕ) (at : ℕ) → step_link y s ≡ link left s at → y ≡ Step.Inner c → (at < c.at) × (c.at ≤ length s) × (1 ≤ left)
 inner-facts {c = c} left s at p g =
-    let t = link-steps left s at inner_link c.at (sym p ∙ ap (λ z. of_link z s) g) in
+    let t = link-steps left s at inner_link c.at (sym p ∙ ap (λ z. step_link z s) g) in
     (t.reach, t.ends, t.wants)
 
 -- ---- the end
 -- how long the whole is, where it is not refused
-pub total-value : (size : WordField) (e n t : ℕ) → total_in size e n ≡ is t → t ≡ total_of size e
+pub total-value : (size : Option ℕ) (e n t : ℕ) → total_in size e n ≡ is t → t ≡ total_of size e
 unfolding total_in
 total-value size e n t q = go (leb e (total_of size e)) (leb e n) q
   where
@@ -345,94 +344,79 @@ total-value size e n t q = go (leb e (total_of size e)) (leb e n) q
     go true false g = not-refused _ 7 g
     go false b g = not-refused _ 10 g
 
-module _ (size : WordField) (e n t : ℕ) (q : t ≡ total_of size e) where
-  pub total-bad : t < e → refused 10 ≡ total_in size e n
-  unfolding total_in
-  total-bad h = rw (lt-leb e (total_of size e) (subst (λ z. z < e) q h)) refl
-
-  pub total-short : e ≤ t → n < e → refused 7 ≡ total_in size e n
-  unfolding total_in
-  total-short h g = rw (le-leb e (total_of size e) (subst (λ z. e ≤ z) q h), lt-leb e n g) refl
-
-  pub total-good : e ≤ t → e ≤ n → is t ≡ total_in size e n
-  unfolding total_in
-  total-good h g = rw (le-leb e (total_of size e) (subst (λ z. e ≤ z) q h), le-leb e n g) (ap is q)
-
 -- the end of a chain c: the last refusals, and then its length
-module _ (size : WordField) (w : Way) (l : List ℕ) (c : Chain) (len : ℕ) (i : len ≡ w.at + size_of c) (y : TotalAnswer) (p : of_total y ≡ total_in size len (length l)) where
+module _ (size : Option ℕ) (w : Way) (l : List ℕ) (c : Chain) (len : ℕ) (i : len ≡ w.at + size_of c) where
   abbrev sum : UdpSum
   sum = sum_in w.routed w.ip w.at c
 
-  ends_is : (t : ℕ) (u : UdpSum) → y ≡ TotalAnswer.Is t → u ≡ sum → is (record { len = len; sum = u }) ≡ ending size w (length l) c
-  ends_is t u g h = subst (λ z. ◌≡◌ {A = Answer Measure} (is (record { len = len; sum = u })) (and_then (total_in size z (length l)) (λ x. is (record { len = z; sum = sum })))) i (rw (sym p ∙ ap of_total g, h) refl)
+  ends_is : (t : ℕ) (u : UdpSum) → is t ≡ total_in size len (length l) → u ≡ sum → is (record { len = len; sum = u }) ≡ ending size w (length l) c
+  ends_is t u g h = subst (λ z. ◌≡◌ {A = Answer Measure} (is (record { len = len; sum = u })) (and_then (total_in size z (length l)) (λ x. is (record { len = z; sum = sum })))) i (rw (sym g, h) refl)
 
-  ends-no : (e : Refusal) → y ≡ TotalAnswer.Refused e → refused (number_of e) ≡ ending size w (length l) c
-  ends-no e g = subst (λ z. ◌≡◌ {A = Answer Measure} (refused (number_of e)) (and_then (total_in size z (length l)) (λ x. is (record { len = z; sum = sum })))) i (rw (sym p ∙ ap of_total g) refl)
+  ends-no : (e : Refusal) → refused (number_of e) ≡ total_in size len (length l) → refused (number_of e) ≡ ending size w (length l) c
+  ends-no e g = subst (λ z. ◌≡◌ {A = Answer Measure} (refused (number_of e)) (and_then (total_in size z (length l)) (λ x. is (record { len = z; sum = sum })))) i (rw (sym g) refl)
 
 -- the payload
-module _ (size : WordField) (w : Way) (s l : List ℕ) (at k : ℕ) (y : TotalAnswer) (i : k ≡ length (drop at s)) (q : of_total y ≡ total_in size (w.at + k) (length l)) where
+module _ (size : Option ℕ) (w : Way) (s l : List ℕ) (at k : ℕ) (i : k ≡ length (drop at s)) where
   rest-size : w.at + k ≡ w.at + size_of (rest 0 (drop at s))
   unfolding size_of
   rest-size = ap (λ z. w.at + z) i
 
-  pub ends-rest : (t : ℕ) (n : List ℕ) → y ≡ TotalAnswer.Is t → n ≡ put w.at (take (length s) (drop at s)) l → Ends (Walked.End (w.at + k) no_sum) w size (got (rest 0 (drop at s)) at) l n
+  pub ends-rest : (t : ℕ) (n : List ℕ) → is t ≡ total_in size (w.at + k) (length l) → n ≡ put w.at (take (length s) (drop at s)) l → Ends (Ok (record { len = w.at + k; sum = no_sum })) w size (got (rest 0 (drop at s)) at) l n
   unfolding full_bytes sum_in
-  ends-rest t n g b = record { answer = ends_is size w l (rest 0 (drop at s)) (w.at + k) rest-size y q t no_sum g refl; bytes = rest-told s l n w.at at b }
+  ends-rest t n g b = record { answer = ends_is size w l (rest 0 (drop at s)) (w.at + k) rest-size t no_sum g refl; bytes = rest-told s l n w.at at b }
 
-  pub ends-rest-no : (e : Refusal) → y ≡ TotalAnswer.Refused e → Ends (Walked.Refused e) w size (got (rest 0 (drop at s)) at) l l
-  ends-rest-no e g = record { answer = ends-no size w l (rest 0 (drop at s)) (w.at + k) rest-size y q e g; bytes = tt }
+  pub ends-rest-no : (e : Refusal) → refused (number_of e) ≡ total_in size (w.at + k) (length l) → Ends (Err e) w size (got (rest 0 (drop at s)) at) l l
+  ends-rest-no e g = record { answer = ends-no size w l (rest 0 (drop at s)) (w.at + k) rest-size e g; bytes = tt }
 
 -- UDP
-pub ends-unknown : (size : WordField) (w : Way) (h : UdpNhcRepr) (s l : List ℕ) (at : ℕ) (t : Bool) → t ≡ (w.routed && is_absent h.checksum) → t ≡ true → Ends (Walked.Refused Refusal.NotExpanded) w size (udp_end (around w) h s at) l l
+pub ends-unknown : (size : Option ℕ) (w : Way) (h : UdpNhcRepr) (s l : List ℕ) (at : ℕ) (t : Bool) → t ≡ (w.routed && is_absent h.checksum) → t ≡ true → Ends (Err Refusal.NotExpanded) w size (udp_end (around w) h s at) l l
 unfolding udp_end
 ends-unknown size w h s l at t p q = rw (sym p ∙ q) (record { answer = refl; bytes = tt })
 
-module _ (size : WordField) (w : Way) (h : UdpNhcRepr) (s l : List ℕ) (at k : ℕ) (v : Bool) (y : TotalAnswer) (p : v ≡ (w.routed && is_absent h.checksum)) (f : v ≡ false) (i : k ≡ length (drop at s)) (q : of_total y ≡ total_in size (w.at + 8 + k) (length l)) where
+module _ (size : Option ℕ) (w : Way) (h : UdpNhcRepr) (s l : List ℕ) (at k : ℕ) (v : Bool) (p : v ≡ (w.routed && is_absent h.checksum)) (f : v ≡ false) (i : k ≡ length (drop at s)) where
   udp-size : w.at + 8 + k ≡ w.at + size_of (udp_then h (drop at s))
   unfolding size_of
   udp-size = add_assoc w.at 8 k ∙ ap (λ z. w.at + (8 + z)) i
 
-  pub ends-udp : (t x : ℕ) (u : UdpSum) (m n : List ℕ) → y ≡ TotalAnswer.Is t → x ≡ t - w.at → m ≡ put w.at (udp_full h x) l → n ≡ put (w.at + 8) (take (length s) (drop at s)) m → u ≡ sum_for w.routed w.ip w.at h.checksum
-      → Ends (Walked.End (w.at + 8 + k) u) w size (udp_end (around w) h s at) l n
+  pub ends-udp : (t x : ℕ) (u : UdpSum) (m n : List ℕ) → is t ≡ total_in size (w.at + 8 + k) (length l) → x ≡ t - w.at → m ≡ put w.at (udp_full h x) l → n ≡ put (w.at + 8) (take (length s) (drop at s)) m → u ≡ sum_for w.routed w.ip w.at h.checksum
+      → Ends (Ok (record { len = w.at + 8 + k; sum = u })) w size (udp_end (around w) h s at) l n
   unfolding udp_end full_bytes sum_in
   ends-udp t x u m n g e a b r =
-      let z : x ≡ total_of size (w.at + 8 + k) - w.at = e ∙ ap (λ d. d - w.at) (total-value size (w.at + 8 + k) (length l) t (sym q ∙ ap of_total g)) in
+      let z : x ≡ total_of size (w.at + 8 + k) - w.at = e ∙ ap (λ d. d - w.at) (total-value size (w.at + 8 + k) (length l) t (sym g)) in
       let b2 : n ≡ put (w.at + 8) (drop at s) m = rest-told s m n (w.at + 8) at b in
       let a2 : m ≡ put w.at (udp_full h (total_of size (w.at + 8 + k) - w.at)) l = a ∙ ap (λ d. put w.at (udp_full h d) l) z in
       rw (sym p ∙ f) (record {
-        answer = ends_is size w l (udp_then h (drop at s)) (w.at + 8 + k) udp-size y q t u g r;
+        answer = ends_is size w l (udp_then h (drop at s)) (w.at + 8 + k) udp-size t u g r;
         bytes = more l m n w.at 8 (udp_full h (total_of size (w.at + 8 + k) - w.at)) (drop at s) (length-udp h (total_of size (w.at + 8 + k) - w.at)) a2 b2;
       })
 
-  pub ends-udp-no : (e : Refusal) → y ≡ TotalAnswer.Refused e → Ends (Walked.Refused e) w size (udp_end (around w) h s at) l l
+  pub ends-udp-no : (e : Refusal) → refused (number_of e) ≡ total_in size (w.at + 8 + k) (length l) → Ends (Err e) w size (udp_end (around w) h s at) l l
   unfolding udp_end
-  ends-udp-no e g = rw (sym p ∙ f) (record { answer = ends-no size w l (udp_then h (drop at s)) (w.at + 8 + k) udp-size y q e g; bytes = tt })
+  ends-udp-no e g = rw (sym p ∙ f) (record { answer = ends-no size w l (udp_then h (drop at s)) (w.at + 8 + k) udp-size e g; bytes = tt })
 
 -- ---- from where the walk has come to, to the end
-module _ (size : WordField) (ps l o : List ℕ) (w v : Way) (m k : Read Chain) (A : Onward ps w m l v k o) (same : length o ≡ length l) (y : Walked) (p : List ℕ) (E : Ends y v size k o p) where
-  walked : of_walked y ≡ end_of size w (length l) m
-  walked = E.answer ∙ ap (λ n. end_of size v n k) same ∙ sym (A.answer size (length l))
+module _ (size : Option ℕ) (ps l o : List ℕ) (w v : Way) (m k : Read Chain) (A : Onward ps w m l v k o) (same : length o ≡ length l) where
+  walked : (y : Result End Refusal) (p : List ℕ) → Ends y v size k o p → of_walked y ≡ end_of size w (length l) m
+  walked y p E = E.answer ∙ ap (λ n. end_of size v n k) same ∙ sym (A.answer size (length l))
 
-  pub walked-no : (e : Refusal) (q : List ℕ) → y ≡ Walked.Refused e → Ends (Walked.Refused e) w size m l q
-  walked-no e q g = record { answer = ap of_walked (sym g) ∙ walked; bytes = tt }
+  pub walked-no : (e : Refusal) (p q : List ℕ) → Ends (Err e) v size k o p → Ends (Err e) w size m l q
+  walked-no e p q E = record { answer = walked (Err e) p E; bytes = tt }
 
-  pub walked_on : (len t : ℕ) (u : UdpSum) (q : List ℕ) → y ≡ Walked.End len u → t ≡ total_of size len → q ≡ patches t ps p → Ends (Walked.End len u) w size m l q
-  walked_on len t u q g e b =
-      let a : p ≡ put_ahead (total_of size len) v k o = subst (λ z. PutsAhead z size v k o p) g E.bytes in
-      record {
-        answer = ap of_walked (sym g) ∙ walked;
-        bytes = b ∙ ap (λ z. patches z ps p) e ∙ ap (patches (total_of size len) ps) a ∙ sym (A.bytes (total_of size len));
-      }
+  pub walked_on : (x : End) (t : ℕ) (p q : List ℕ) → Ends (Ok x) v size k o p → t ≡ total_of size x.len → q ≡ patches t ps p → Ends (Ok x) w size m l q
+  walked_on x t p q E e b = record {
+    answer = walked (Ok x) p E;
+    bytes = b ∙ ap (λ z. patches z ps p) e ∙ ap (patches (total_of size x.len) ps) E.bytes ∙ sym (A.bytes (total_of size x.len));
+  }
 
 -- where no payload length is still to be put
-pub walked-so : (size : WordField) (l o : List ℕ) (w v : Way) (m k : Read Chain) → Onward [] w m l v k o → length o ≡ length l → (y : Walked) (p : List ℕ) → Ends y v size k o p → Ends y w size m l p
+pub walked-so : (size : Option ℕ) (l o : List ℕ) (w v : Way) (m k : Read Chain) → Onward [] w m l v k o → length o ≡ length l → (y : Result End Refusal) (p : List ℕ) → Ends y v size k o p → Ends y w size m l p
 unfolding patches
-walked-so size l o w v m k A same (Walked.End len u) p E = walked_on size [] l o w v m k A same (Walked.End len u) p E len (total_of size len) u p refl refl refl
-walked-so size l o w v m k A same (Walked.Refused e) p E = walked-no size [] l o w v m k A same (Walked.Refused e) p E e p refl
+walked-so size l o w v m k A same (Ok x) p E = walked_on size [] l o w v m k A same x (total_of size x.len) p p E refl refl
+walked-so size l o w v m k A same (Err e) p E = walked-no size [] l o w v m k A same e p p E
 
 -- and where what is ahead is refused
-pub walked-refused : (size : WordField) (ps l o p : List ℕ) (w v : Way) (m : Read Chain) (e : Refusal) → Onward ps w m l v (refused (number_of e)) o → Ends (Walked.Refused e) w size m l p
-walked-refused size ps l o p w v m e A = record { answer = sym (A.answer size (length l)); bytes = tt }
+pub walked-refused : (size : Option ℕ) (l p : List ℕ) (w : Way) (m : Read Chain) (e : Refusal) → Refuses e w m → Ends (Err e) w size m l p
+walked-refused size l p w m e f = record { answer = sym (f size (length l)); bytes = tt }
 
 -- one payload length
 pub patch-one : (t o x : ℕ) (l q : List ℕ) → x ≡ t - (o + 40) → q ≡ put (o + 4) (be16_bytes x) l → q ≡ patches t (o ∷ []) l

@@ -1,13 +1,12 @@
 -- The compressed headers of a frame as a chain (RFC 6282, 3 and 4.2; RFC 8200, 4; the change requests, item 5): header reads chain, chain
 -- reads header. Then what each header becomes.
-use Rattle.std.specs.Prelude.{ℕ, zero, suc, ◌+◌, ◌-◌, ◌*◌, ◌/◌, ◌%◌, List, [], ◌∷◌, ◌++◌, Bool, true, false, ◌&&◌, ◌||◌, not, length, get_or, take, drop, replicate, eqb, leb}
+use Rattle.ieee802154.specs.declared.addr.Address.{Address}
+use Rattle.std.specs.Prelude.{ℕ, zero, suc, ◌+◌, ◌-◌, ◌*◌, ◌/◌, ◌%◌, List, [], ◌∷◌, ◌++◌, Bool, true, false, ◌&&◌, ◌||◌, not, length, get_or, take, drop, replicate, eqb, leb, Option, Some, None}
 use Rattle.octets.specs.Read.{Answer, is, refused, Reader, got, and_then, choose, branch, give, refuse, byte, skip, ◌>>=◌}
 use Rattle.octets.specs.Write.{byte_bytes}
-use Rattle.octets.specs.declared.field.WordField.{WordField}
 use Rattle.octets.specs.declared.ipv6.Ipv6Addr.{Ipv6Addr}
 use Rattle.ieee802154.specs.Address.{flip57}
 use Rattle.ieee802154.specs.declared.addr.Address.TheVariants.{Extended}
-use Rattle.ieee802154.specs.declared.addr.AddressField.{AddressField}
 use Rattle.iphc.specs.Iphc.{iphc}
 use Rattle.iphc.specs.declared.header.Repr.{Repr}
 use Rattle.sixlowpan.specs.Nhc.{nhc}
@@ -131,8 +130,8 @@ past n w = record { src = w.src; dst = w.dst; routed = eqb n 43 || w.routed }
 
 -- RFC 6282, 3.2.2: in an inner header an elided identifier is that of the address outside, its last 64 bits; as the link-layer address that
 -- has this identifier (`inside-iid`, proofs/ChainLaws.antt)
-abbrev pub inside : Ipv6Addr → AddressField
-inside a = AddressField.Some (Extended (flip57 a.iid))
+abbrev pub inside : Ipv6Addr → Option Address
+inside a = Some (Extended (flip57 a.iid))
 
 -- all that is left
 abbrev pub remaining : Reader (List ℕ)
@@ -146,7 +145,7 @@ behind_next (Uncompressed p) m = do
 behind_next Compressed m = m
 
 -- an IPv6 header and the chain behind it
-unfoldable pub header_then : List ℕ → AddressField → AddressField → (Around → Reader Chain) → Reader Chain
+unfoldable pub header_then : List ℕ → Option Address → Option Address → (Around → Reader Chain) → Reader Chain
 header_then ctx ls ld m = do
   h ← iphc ctx ls ld
   c ← behind_next h.next_header (m (within h))
@@ -177,7 +176,7 @@ chain (suc left) ctx w = do
   onward ctx (chain left ctx) w l
 
 -- all headers of a frame: at most eight, the outer IPv6 one counted. ctx: the contexts; ls and ld: the frame's link-layer addresses
-unfoldable pub chained : List ℕ → AddressField → AddressField → Reader Chain
+unfoldable pub chained : List ℕ → Option Address → Option Address → Reader Chain
 chained ctx ls ld = header_then ctx ls ld (chain 7 ctx)
 
 -- ---- what each becomes
@@ -224,7 +223,7 @@ full_bytes t o (extension n d c) = ext_full (head_number c) d ++ full_bytes t (o
 full_bytes t o (ipv6 h c) = ipv6_with h (head_number c) (t - (o + 40)) ++ full_bytes t (o + 40) c
 
 -- what is to be remembered of the checksum, o being the place, i that of the IPv6 header just outside: nothing behind a routing header
-abbrev pub sum_for : Bool → ℕ → ℕ → WordField → UdpSum
+abbrev pub sum_for : Bool → ℕ → ℕ → Option ℕ → UdpSum
 sum_for routed i o c = choose routed no_sum (choose (is_absent c) (elided_at i o) (carried_at i o))
 
 unfoldable pub sum_in : Bool → ℕ → ℕ → Chain → UdpSum
@@ -253,11 +252,11 @@ pub record Measure : Type 0 where
   pub sum : UdpSum
 
 -- the length of the whole datagram: that of n bytes, or in a first part its size
-abbrev pub total_of : WordField → ℕ → ℕ
-total_of WordField.None n = n
-total_of (WordField.Some size) n = size
+abbrev pub total_of : Option ℕ → ℕ → ℕ
+total_of None n = n
+total_of (Some size) n = size
 
 -- once all headers are read, so that the datagram, or its first part, is known to have e bytes: 10 where it ends beyond its size, then 7
 -- where the room has too few, n
-unfoldable pub total_in : WordField → ℕ → ℕ → Answer ℕ
+unfoldable pub total_in : Option ℕ → ℕ → ℕ → Answer ℕ
 total_in size e n = choose (leb e (total_of size e)) (choose (leb e n) (is (total_of size e)) (refused 7)) (refused 10)

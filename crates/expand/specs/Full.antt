@@ -1,26 +1,24 @@
 -- The headers in full: IPv6 (RFC 8200, 3) and UDP (RFC 768).
-use Rattle.std.specs.Prelude.{ℕ, ◌+◌, ◌*◌, ◌/◌, ◌%◌, ◌^◌, List, ◌++◌, Bool, true, false}
+use Rattle.iphc.specs.declared.label.FlowLabel.{FlowLabel}
+use Rattle.std.specs.Prelude.{ℕ, ◌+◌, ◌*◌, ◌/◌, ◌%◌, ◌^◌, List, ◌++◌, Bool, true, false, Option, Some, None}
 use Rattle.octets.specs.Write.{byte_bytes, be16_bytes, be32_bytes, be64_bytes}
-use Rattle.octets.specs.declared.field.ByteField.{ByteField}
-use Rattle.octets.specs.declared.field.WordField.{WordField}
 use Rattle.octets.specs.declared.ipv6.Ipv6Addr.{Ipv6Addr}
-use Rattle.iphc.specs.declared.label.LabelField.{LabelField}
 use Rattle.iphc.specs.declared.header.Repr.{Repr}
 use Rattle.sixlowpan.specs.declared.nhc.UdpNhcRepr.{UdpNhcRepr}
 use Rattle.expand.specs.declared.ip.Kept.{Kept}
 
 -- an absent field is 0
-abbrev pub byte_or : ByteField → ℕ
-byte_or ByteField.None = 0
-byte_or (ByteField.Some x) = x
+abbrev pub byte_or : Option ℕ → ℕ
+byte_or None = 0
+byte_or (Some x) = x
 
-abbrev pub word_or : WordField → ℕ
-word_or WordField.None = 0
-word_or (WordField.Some x) = x
+abbrev pub word_or : Option ℕ → ℕ
+word_or None = 0
+word_or (Some x) = x
 
-abbrev pub label_or : LabelField → ℕ
-label_or LabelField.None = 0
-label_or (LabelField.Some l) = l.0
+abbrev pub label_or : Option FlowLabel → ℕ
+label_or None = 0
+label_or (Some l) = l.0
 
 -- ---- RFC 8200, 3
 -- the traffic class: DSCP in its upper six bits, ECN in its lower two (RFC 2474, RFC 3168); a compressed header has ECN in the top two
@@ -64,6 +62,6 @@ kept_full k payload = kept_front k payload ++ both_bytes k.src k.dst
 unfoldable pub udp_full : UdpNhcRepr → ℕ → List ℕ
 udp_full h n = be16_bytes h.src_port ++ (be16_bytes h.dst_port ++ (be16_bytes n ++ be16_bytes (word_or h.checksum)))
 
-abbrev pub is_absent : WordField → Bool
-is_absent WordField.None = true
-is_absent (WordField.Some x) = false
+abbrev pub is_absent : Option ℕ → Bool
+is_absent None = true
+is_absent (Some x) = false

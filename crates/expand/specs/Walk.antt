@@ -1,12 +1,12 @@
 -- The walk over the headers of a frame, in code: what its contracts say (src/chain.rt).
-use Rattle.std.specs.Prelude.{ℕ, ◌+◌, ◌-◌, ◌*◌, ◌≤◌, ◌<◌, ◌≡◌, List, [], ◌∷◌, Bool, true, false, ◌||◌, length, get_or, take, drop, eqb}
+use Rattle.ieee802154.specs.declared.addr.Address.{Address}
+use Rattle.std.specs.Prelude.{ℕ, Result, Ok, Err, ◌+◌, ◌-◌, ◌*◌, ◌≤◌, ◌<◌, ◌≡◌, List, [], ◌∷◌, Bool, true, false, ◌||◌, length, get_or, take, drop, eqb, Option, Some}
 use Rattle.octets.specs.Read.{Answer, is, refused, Read, got, and_then}
 use Rattle.octets.specs.Refusal.{number_of}
 use Rattle.octets.specs.Write.{put, be16_bytes}
-use Rattle.octets.specs.declared.field.WordField.{WordField}
+use Rattle.octets.specs.declared.refusal.Refusal.{Refusal}
 use Rattle.ieee802154.specs.Address.{flip57}
 use Rattle.ieee802154.specs.declared.addr.Address.TheVariants.{Extended}
-use Rattle.ieee802154.specs.declared.addr.AddressField.{AddressField}
 use Rattle.iphc.specs.Iphc.{iphc}
 use Rattle.sixlowpan.specs.declared.protocol.NextHeader.{NextHeader}
 use Rattle.sixlowpan.specs.declared.protocol.NextHeader.TheVariants.{Compressed, Uncompressed}
@@ -14,14 +14,12 @@ use Rattle.expand.specs.Full.{keep}
 use Rattle.expand.specs.Chain.{Chain, rest, Link, udp_link, ext_link, inner_link, Around, header_then, udp_end, chain, next_number, full_size, size_of, full_bytes, sum_in, Measure, total_of, total_in}
 use Rattle.expand.specs.declared.ip.Kept.{Kept}
 use Rattle.expand.specs.declared.chain.Extension.{Extension}
-use Rattle.expand.specs.declared.chain.KeptRead.{KeptRead}
 use Rattle.expand.specs.declared.chain.Step.{Step}
 use Rattle.expand.specs.declared.chain.Way.{Way}
 use Rattle.expand.specs.declared.chain.Last.{Last}
 use Rattle.expand.specs.declared.chain.Reached.{Reached}
 use Rattle.expand.specs.declared.chain.Laid.{Laid}
-use Rattle.expand.specs.declared.chain.Walked.{Walked}
-use Rattle.expand.specs.declared.chain.TotalAnswer.{TotalAnswer}
+use Rattle.expand.specs.declared.chain.End.{End}
 
 -- ---- what is read
 -- what follows the first two bytes of an extension header, in the frame s; the header; and a step of the code
@@ -31,27 +29,22 @@ ext_bytes x s = take (x.to.at - x.from.at) (drop x.from.at s)
 abbrev pub ext_of : Extension → List ℕ → Link
 ext_of x s = ext_link x.number (ext_bytes x s) x.next
 
-abbrev pub of_link : Step → List ℕ → Read Link
-of_link (Step.Udp c h) s = got (udp_link h) c.at
-of_link (Step.Extension x) s = got (ext_of x s) x.to.at
-of_link (Step.Inner c) s = got inner_link c.at
-of_link (Step.Refused e) s = refused (number_of e)
+abbrev pub step_link : Step → List ℕ → Read Link
+step_link (Step.Udp c h) s = got (udp_link h) c.at
+step_link (Step.Extension x) s = got (ext_of x s) x.to.at
+step_link (Step.Inner c) s = got inner_link c.at
+
+abbrev pub of_link : Result Step Refusal → List ℕ → Read Link
+of_link (Ok y) s = step_link y s
+of_link (Err e) s = refused (number_of e)
 
 abbrev pub is_compressed : NextHeader → Bool
 is_compressed (Uncompressed p) = false
 is_compressed Compressed = true
 
 -- an IPv6 header as it is kept
-abbrev pub kept : List ℕ → AddressField → AddressField → List ℕ → ℕ → Answer Kept
+abbrev pub kept : List ℕ → Option Address → Option Address → List ℕ → ℕ → Answer Kept
 kept ctx ls ld s at = and_then (iphc ctx ls ld s at) (λ p. is (keep p.value (next_number p.value.next_header s p.next) p.next))
-
-abbrev pub of_kept : KeptRead → Answer Kept
-of_kept (KeptRead.Header k) = is k
-of_kept (KeptRead.Refused e) = refused (number_of e)
-
-abbrev pub of_total : TotalAnswer → Answer ℕ
-of_total (TotalAnswer.Is t) = is t
-of_total (TotalAnswer.Refused e) = refused (number_of e)
 
 -- ---- how far it has come
 -- in front of the outer IPv6 header, behind which seven more may come
@@ -73,15 +66,14 @@ abbrev pub around : Way → Around
 around w = record { src = record { prefix = 0; iid = w.src }; dst = record { prefix = 0; iid = w.dst }; routed = w.routed }
 
 -- the link-layer address that has an identifier: `inside` of an address that has it
-abbrev pub identified : ℕ → AddressField
-identified i = AddressField.Some (Extended (flip57 i))
+abbrev pub identified : ℕ → Option Address
+identified i = Some (Extended (flip57 i))
 
 -- what is still to be read: the payload, whose number is not looked at any more; UDP; or an IPv6 header
 abbrev pub ahead_of : List ℕ → Way → Last → List ℕ → Read Chain
 ahead_of ctx w (Last.Rest c) s = got (rest 0 (drop c.at s)) c.at
 ahead_of ctx w (Last.Udp c h) s = udp_end (around w) h s c.at
 ahead_of ctx w (Last.Inner c) s = header_then ctx (identified w.src) (identified w.dst) (chain (w.left - 1) ctx) s c.at
-ahead_of ctx w (Last.Refused e) s = refused (number_of e)
 
 abbrev pub ahead : List ℕ → Reached → List ℕ → Read Chain
 ahead ctx r s = ahead_of ctx r.way r.last s
@@ -91,27 +83,28 @@ abbrev pub Room : Way → Last → List ℕ → Type 0
 Room w (Last.Rest c) s = w.at ≤ 447
 Room w (Last.Udp c h) s = w.at ≤ 447
 Room w (Last.Inner c) s = (w.at + 40 * w.left + (length s - c.at) ≤ 447) × (1 ≤ w.left)
-Room w (Last.Refused e) s = Unit {0}
 
 -- an IPv6 header stands further on in the frame s than the place n
 abbrev pub Beyond : Last → ℕ → List ℕ → Type 0
 Beyond (Last.Rest c) n s = Unit {0}
 Beyond (Last.Udp c h) n s = Unit {0}
 Beyond (Last.Inner c) n s = (n < c.at) × (c.at ≤ length s)
-Beyond (Last.Refused e) n s = Unit {0}
+
+abbrev pub Further : Result Reached Refusal → ℕ → List ℕ → Type 0
+Further (Ok r) n s = Beyond r.last n s
+Further (Err e) n s = Unit {0}
 
 abbrev pub NotInner : Last → Type 0
 NotInner (Last.Rest c) = Unit {0}
 NotInner (Last.Udp c h) = Unit {0}
 NotInner (Last.Inner c) = ⊥
-NotInner (Last.Refused e) = Unit {0}
 
 -- ---- what it comes to
 -- in a room of n bytes: the length, and what is to be remembered of the checksum, where the chain c is ahead
-abbrev pub ending : WordField → Way → ℕ → Chain → Answer Measure
+abbrev pub ending : Option ℕ → Way → ℕ → Chain → Answer Measure
 ending size w n c = and_then (total_in size (w.at + size_of c) n) (λ t. is (record { len = w.at + size_of c; sum = sum_in w.routed w.ip w.at c }))
 
-abbrev pub end_of : WordField → Way → ℕ → Read Chain → Answer Measure
+abbrev pub end_of : Option ℕ → Way → ℕ → Read Chain → Answer Measure
 end_of size w n m = and_then m (λ p. ending size w n p.value)
 
 -- and the room: the bytes of what is ahead are put at their place, t being the length of the whole; [] where that is refused
@@ -130,31 +123,43 @@ patches t (o ∷ os) l = patch t o (patches t os l)
 -- from the way w, with m ahead and the room l, the walk has come to the way v, with k ahead and the room o: that comes to the same, but that
 -- the payload lengths at the places ps are still to be put
 pub record Onward (ps : List ℕ) (w : Way) (m : Read Chain) (l : List ℕ) (v : Way) (k : Read Chain) (o : List ℕ) : Type 0 where
-  pub answer : (size : WordField) (n : ℕ) → end_of size w n m ≡ end_of size v n k
+  pub answer : (size : Option ℕ) (n : ℕ) → end_of size w n m ≡ end_of size v n k
   pub bytes : (t : ℕ) → put_ahead t w m l ≡ patches t ps (put_ahead t v k o)
 
+-- from the way w, with m ahead, all comes to that refusal
+abbrev pub Refuses : Refusal → Way → Read Chain → Type 0
+Refuses e w m = (size : Option ℕ) (n : ℕ) → end_of size w n m ≡ refused (number_of e)
+
 -- the walk has reached r, from the way w with m ahead in the frame s; the room was l and is o
-pub record Reaches (ctx : List ℕ) (r : Reached) (ps : List ℕ) (w : Way) (m : Read Chain) (s l o : List ℕ) : Type 0 where
+pub record Comes (ctx : List ℕ) (r : Reached) (ps : List ℕ) (w : Way) (m : Read Chain) (s l o : List ℕ) : Type 0 where
   pub onward : Onward ps w m l r.way (ahead ctx r s) o
   pub room : Room r.way r.last s
   pub left : r.way.left ≤ w.left
 
+abbrev pub Reaches : List ℕ → Result Reached Refusal → List ℕ → Way → Read Chain → List ℕ → List ℕ → List ℕ → Type 0
+Reaches ctx (Ok r) ps w m s l o = Comes ctx r ps w m s l o
+Reaches ctx (Err e) ps w m s l o = Refuses e w m
+
 -- all headers but UDP's are put; their IPv6 headers stand at the first of the places
-pub record Lays (ctx : List ℕ) (r : Laid) (m : Read Chain) (s places l o : List ℕ) : Type 0 where
-  pub reaches : Reaches ctx r.reached (take r.count places) start m s l o
+pub record Lies (ctx : List ℕ) (r : Laid) (m : Read Chain) (s places l o : List ℕ) : Type 0 where
+  pub reaches : Comes ctx r.reached (take r.count places) start m s l o
   pub outside : NotInner r.reached.last
   pub most : r.count ≤ 8
   pub small : (i : ℕ) → i < r.count → get_or places i 0 ≤ 447
 
-abbrev pub of_walked : Walked → Answer Measure
-of_walked (Walked.End n m) = is (record { len = n; sum = m })
-of_walked (Walked.Refused e) = refused (number_of e)
+abbrev pub Lays : List ℕ → Result Laid Refusal → Read Chain → List ℕ → List ℕ → List ℕ → List ℕ → Type 0
+Lays ctx (Ok r) m s places l o = Lies ctx r m s places l o
+Lays ctx (Err e) m s places l o = Refuses e start m
 
-abbrev pub PutsAhead : Walked → WordField → Way → Read Chain → List ℕ → List ℕ → Type 0
-PutsAhead (Walked.End e u) size w m l o = o ≡ put_ahead (total_of size e) w m l
-PutsAhead (Walked.Refused e) size w m l o = Unit {0}
+abbrev pub of_walked : Result End Refusal → Answer Measure
+of_walked (Ok x) = is (record { len = x.len; sum = x.sum })
+of_walked (Err e) = refused (number_of e)
+
+abbrev pub PutsAhead : Result End Refusal → Option ℕ → Way → Read Chain → List ℕ → List ℕ → Type 0
+PutsAhead (Ok x) size w m l o = o ≡ put_ahead (total_of size x.len) w m l
+PutsAhead (Err e) size w m l o = Unit {0}
 
 -- the walk is at its end; where it is refused nothing is said of the room
-pub record Ends (r : Walked) (w : Way) (size : WordField) (m : Read Chain) (l o : List ℕ) : Type 0 where
+pub record Ends (r : Result End Refusal) (w : Way) (size : Option ℕ) (m : Read Chain) (l o : List ℕ) : Type 0 where
   pub answer : of_walked r ≡ end_of size w (length l) m
   pub bytes : PutsAhead r size w m l o

@@ -6,7 +6,7 @@ use octets::write::put_be16;
 
 // What is to be known of a UDP checksum once its datagram is whole: nothing (kind 0), that it was elided (1) or that it
 // was carried (2), and where the IPv6 header just outside the UDP header and the UDP header itself stand; 0 where there
-// is nothing to know. Numbers, as the slot table keeps them.
+// is nothing to know. The kind is a number, as the slot table keeps it: each 64-bit number is one table (`table-one`).
 #[repr(C)]
 #[derive(Clone, Copy)]
 pub struct UdpSum {
@@ -23,12 +23,6 @@ impl UdpSum {
     };
 }
 
-fn wide(x: u8) -> u32
-    ensures { (result ≡ x) × (result < 256) }
-{
-    x as u32
-}
-
 // The plain sum of the words of at most 65,534 bytes: below 2^31 and a little, so that with an address pair, ports, a
 // length and 17 it is below 2^32.
 fn sum_words(s: &[u8]) -> u32
@@ -37,14 +31,17 @@ fn sum_words(s: &[u8]) -> u32
 {
     let n = s.len() / 2;
     let mut x: u32 = 0;
-    let mut k: usize = 0;
-    while k < n {
+    // By the index: slices are taken so in the crates under `lift_c` (docs/DECISIONS.md).
+    for k in 0..n {
         let i = k * 2;
-        x = x + (wide(s[i]) * 256 + wide(s[i + 1]));
-        k += 1;
+        x += (s[i] as u32) * 256 + (s[i + 1] as u32);
     }
     let i = n * 2;
-    if i < s.len() { x + wide(s[i]) * 256 } else { x }
+    if i < s.len() {
+        x + (s[i] as u32) * 256
+    } else {
+        x
+    }
 }
 
 // The checksum of the UDP header at the place `udp` of a datagram, with the addresses of the IPv6 header at the place
@@ -73,16 +70,12 @@ fn stands(m: UdpSum, n: usize) -> bool
 {
     let ip = m.ip as usize;
     let udp = m.udp as usize;
-    if ip + 40 <= udp {
-        if udp + 8 <= n {
-            return n <= udp + 65535;
-        }
-    }
-    false
+    ip + 40 <= udp && udp + 8 <= n && n <= udp + 65535
 }
 
 // Computes an elided checksum of the datagram that the first n bytes are, and puts it into its place. Where it was not
 // elided, or they can be no such datagram, nothing is written.
+// The length stands beside the room, here and in `is_right`: `summed_in` and `holds_in` of specs/Sum.antt take both.
 pub fn put_checksum(buf: &mut [u8], n: usize, m: UdpSum)
     ensures { buf.new ≡ summed_in m n buf.old }
 {
@@ -100,11 +93,12 @@ pub fn put_checksum(buf: &mut [u8], n: usize, m: UdpSum)
 }
 
 // Two bytes of a slice, the high one first.
+// Not through `Cursor`: `stands` has tested the end, so there is none to be refused.
 fn word_at(d: &[u8], at: usize) -> u16
     requires { at + 2 ≤ length d.now }
     ensures { result ≡ be16_at at d.now }
 {
-    (wide(d[at]) * 256 + wide(d[at + 1])) as u16
+    (d[at] as u16) * 256 + (d[at + 1] as u16)
 }
 
 // Whether a carried checksum of the datagram that the first n bytes are is right. Where none was carried, or they can

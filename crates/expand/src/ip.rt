@@ -6,9 +6,8 @@ ghost use Rattle.expand.specs.Full.{udp_full};
 ghost use Rattle.expand.specs.Chain.{pad, full_size, ext_full};
 
 use super::copy::put_slice;
-use iphc::{LabelField, Repr};
+use iphc::{FlowLabel, Repr};
 use octets::cursor::Cursor;
-use octets::field::{ByteField, WordField};
 use octets::ipv6::Ipv6Addr;
 use octets::write::{put_be16, put_be32, put_be64, put_byte};
 use sixlowpan::NextHeader;
@@ -27,32 +26,23 @@ pub struct Kept {
     pub behind: Cursor,
 }
 
-// An absent field is 0.
-fn byte_or(f: ByteField) -> u32
+// An absent field is 0: three functions, as specs/Full has them, for two widths and a label.
+fn byte_or(f: Option<u8>) -> u32
     ensures { (result ≡ byte_or f) × (result < 256) }
 {
-    match f {
-        ByteField::None => 0,
-        ByteField::Some(x) => x as u32,
-    }
+    f.unwrap_or(0) as u32
 }
 
-fn word_or(f: WordField) -> u16
+fn word_or(f: Option<u16>) -> u16
     ensures { result ≡ word_or f }
 {
-    match f {
-        WordField::None => 0,
-        WordField::Some(x) => x,
-    }
+    f.unwrap_or(0)
 }
 
-fn label_or(f: LabelField) -> u32
+fn label_or(f: Option<FlowLabel>) -> u32
     ensures { result ≡ label_or f }
 {
-    match f {
-        LabelField::None => 0,
-        LabelField::Some(l) => l.0,
-    }
+    f.map_or(0, |l| l.0)
 }
 
 // Version, traffic class and flow label.
@@ -66,7 +56,8 @@ pub(crate) fn first_word(ip: Repr) -> u32
     0x6000_0000 + class * 0x10_0000 + label_or(label) % 0x10_0000
 }
 
-// What stands before the addresses.
+// What stands before the addresses. A room and a place in it, as the writers of octets have them.
+#[tactic(auto, unfolding(crate::specs::Full::kept_front), using(octets::proofs::Puts::puts))]
 fn put_front(buf: &mut [u8], at: usize, ip: Kept, payload: u16)
     requires { at ≤ 65535 }
     ensures { buf.new ≡ put at (kept_front ip payload) buf.old }
@@ -77,6 +68,8 @@ fn put_front(buf: &mut [u8], at: usize, ip: Kept, payload: u16)
     put_byte(buf, at + 7, ip.hops);
 }
 
+// The bound on a place, here and below, is that of an index: places behind it are added.
+#[tactic(auto, unfolding(crate::specs::Full::both_bytes), using(octets::proofs::Puts::puts))]
 fn put_both(buf: &mut [u8], at: usize, src: Ipv6Addr, dst: Ipv6Addr)
     requires { at ≤ 65535 }
     ensures { buf.new ≡ put at (both_bytes src dst) buf.old }
@@ -99,6 +92,7 @@ pub(crate) fn put_ipv6(buf: &mut [u8], at: usize, ip: Kept, payload: u16)
 }
 
 // A UDP header at a place, with 0 for an elided checksum.
+#[tactic(auto, unfolding(crate::specs::Full::udp_full), using(octets::proofs::Puts::puts))]
 pub(crate) fn put_udp(buf: &mut [u8], at: usize, h: UdpNhcRepr, len: u16)
     requires { at ≤ 65535 }
     ensures { buf.new ≡ put at (udp_full h len) buf.old }

@@ -7,13 +7,12 @@ ghost use Rattle.expand.specs.Chain.{header_then, behind_next, chain};
 ghost use Rattle.expand.specs.Walk.{around, Ends};
 
 use super::chain::{
-    KeptRead, Last, Walked, Way, end_rest, end_udp, less, links_inside, put_extensions, read_kept,
-    total_of,
+    End, Last, Way, end_rest, end_udp, links_inside, put_extensions, read_kept, total_of,
 };
 use super::ip::put_ipv6;
 use iphc::LinkAddresses;
 use octets::cursor::Cursor;
-use octets::field::WordField;
+use octets::refusal::Refusal;
 use octets::write::put_be16;
 use sixlowpan::NextHeader;
 
@@ -32,15 +31,16 @@ pub struct Field {
 }
 
 // An IPv6 header, and the chain behind it. Its payload length is put once the chain's is known.
+// (The bounds, here and in `chain`, are those of the readers in chain.rt, for the reason at `end_rest`.)
 #[cycle(chain_header)]
 pub(crate) fn header(
     frame: &[u8],
     i: Inner,
     contexts: &[u8],
     w: Way,
-    size: WordField,
+    size: Option<u16>,
     out: &mut [u8],
-) -> Walked
+) -> Result<End, Refusal>
     requires { (w.at + 40 * (w.left + 1) + (length frame.now - i.at.at) ≤ 447) × (length frame.now ≤ 127) }
     ensures { Ends result w size (header_then contexts.now i.ll.src i.ll.dst
         (chain w.left contexts.now) frame.now i.at.at) out.old
@@ -48,46 +48,45 @@ pub(crate) fn header(
 {
     let ll = i.ll;
     let c = i.at;
-    match read_kept(frame, c, ll, contexts) {
-        KeptRead::Header(ip) => {
-            let src = ip.src;
-            let dst = ip.dst;
-            let next = ip.next;
-            let at = ip.behind;
-            put_ipv6(out, w.at as usize, ip, 0);
-            match chain(
-                frame,
-                Field { next, at },
-                contexts,
-                w.within(src.iid, dst.iid),
-                size,
-                out,
-            ) {
-                Walked::End { len, sum } => {
-                    put_be16(
-                        out,
-                        (w.at as usize) + 4,
-                        less(total_of(size, len), w.at + 40),
-                    );
-                    Walked::End { len, sum }
-                }
-                Walked::Refused(e) => Walked::Refused(e),
-            }
-        }
-        KeptRead::Refused(e) => Walked::Refused(e),
-    }
+    let ip = read_kept(frame, c, ll, contexts)?;
+    let src = ip.src;
+    let dst = ip.dst;
+    let next = ip.next;
+    let at = ip.behind;
+    put_ipv6(out, w.at as usize, ip, 0);
+    let end = chain(
+        frame,
+        Field { next, at },
+        contexts,
+        w.within(src.iid, dst.iid),
+        size,
+        out,
+    )?;
+    put_be16(
+        out,
+        (w.at as usize) + 4,
+        total_of(size, end.len).saturating_sub(w.at + 40),
+    );
+    Ok(end)
 }
 
 // Extension headers, and then the payload, a UDP header, or an IPv6 header and what is behind that.
 #[cycle(chain_header)]
-fn chain(frame: &[u8], f: Field, contexts: &[u8], w: Way, size: WordField, out: &mut [u8]) -> Walked
+fn chain(
+    frame: &[u8],
+    f: Field,
+    contexts: &[u8],
+    w: Way,
+    size: Option<u16>,
+    out: &mut [u8],
+) -> Result<End, Refusal>
     requires { (w.at + 40 * w.left + (length frame.now - f.at.at) ≤ 447) × (length frame.now ≤ 127) }
     ensures { Ends result w size (behind_next f.next (chain w.left contexts.now (around w))
         frame.now f.at.at) out.old out.new }
 {
     let next = f.next;
     let from = f.at;
-    let r = put_extensions(frame, next, from, w, out);
+    let r = put_extensions(frame, next, from, w, out)?;
     let way = r.way;
     let last = r.last;
     match last {
@@ -97,6 +96,5 @@ fn chain(frame: &[u8], f: Field, contexts: &[u8], w: Way, size: WordField, out: 
             let ll = links_inside(way);
             header(frame, Inner { at, ll }, contexts, way.fewer(), size, out)
         }
-        Last::Refused(e) => Walked::Refused(e),
     }
 }

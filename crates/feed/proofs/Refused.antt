@@ -17,6 +17,7 @@ use Rattle.feed.specs.Runs.{frames_in, feed_all, feed_file, Short, short_ones, A
 use Rattle.feed.specs.Runs.{Call, piece, finish, answered, Session, call_all}
 use Rattle.feed.specs.Runs.{is_refused, accepted, granted, without_refused}
 use Rattle.feed.specs.declared.reader.Reader.{Reader}
+use Rattle.std.specs.Prelude.{Result, Ok, Err}
 use Rattle.feed.specs.declared.reader.Found.{Found}
 use Rattle.feed.specs.declared.reader.Fed.{Fed}
 use Rattle.feed.proofs.States.{long-refused, refused-stays, end_stays, declined-stays}
@@ -24,14 +25,14 @@ use Rattle.feed.proofs.Promises.{every-cutting}
 
 -- ---- one call
 module _ (f : Reader) where
-  declined-of : (e : Refusal) (c : Call) → (answered f c).found ≡ Found.Refused e → answered f c ≡ declined f e
+  declined-of : (e : Refusal) (c : Call) → (answered f c).found ≡ Err e → answered f c ≡ declined f e
   declined-of e (piece s) p = refused-stays f e s p
   declined-of e finish p = end_stays f e p
 
-  reader-of : (c : Call) (x : Found) → (answered f c).found ≡ x → is_refused x ≡ true → (answered f c).reader ≡ f
-  reader-of c (Found.Blocks n) p t = let z : ◌≡◌ {A = ℕ} 0 1 = cc in absurd (omega arith)
-  reader-of c (Found.Bad n b) p t = let z : ◌≡◌ {A = ℕ} 0 1 = cc in absurd (omega arith)
-  reader-of c (Found.Refused e) p t = ap (λ (a : Fed). a.reader) (declined-of e c p) ∙ (declined-stays f e).0
+  reader-of : (c : Call) (x : Result Found Refusal) → (answered f c).found ≡ x → is_refused x ≡ true → (answered f c).reader ≡ f
+  reader-of c (Ok (Found.Blocks n)) p t = let z : ◌≡◌ {A = ℕ} 0 1 = cc in absurd (omega arith)
+  reader-of c (Ok (Found.Bad n b)) p t = let z : ◌≡◌ {A = ℕ} 0 1 = cc in absurd (omega arith)
+  reader-of c (Err e) p t = ap (λ (a : Fed). a.reader) (declined-of e c p) ∙ (declined-stays f e).0
 
   pub refused-call : (c : Call) → is_refused (answered f c).found ≡ true → (answered f c).reader ≡ f
   refused-call c t = reader-of c (answered f c).found refl t

@@ -1,4 +1,5 @@
 -- The answers of the code: each is that of what was read.
+use Rattle.std.specs.Prelude.{Result, Ok, Err}
 use Prim.Native.Nat.{ℕ, ◌+◌, ◌^◌, ◌≤◌, ◌<◌}
 use native.Mathlib.Omega.{arith}
 use mathlib.Core.Bool.{true, false}
@@ -6,40 +7,28 @@ use mathlib.Core.List.{List, [], ◌∷◌, ◌++◌, append-nil}
 use mathlib.Core.Path.{◌≡◌, sym, ap, ap₂, ◌∙◌}
 use lib.ListN.{length, take, drop, length-drop}
 use lib.Seq.{take-add, drop-drop}
-use Rattle.capture.specs.Block.{good_block, judged, of_judged}
+use Rattle.capture.specs.Block.{good_block, judged}
+use Rattle.octets.specs.Answers.{of_answer}
 use Rattle.capture.specs.Made.{Bytes}
-use Rattle.capture.specs.declared.block.Judged.{Judged}
 use Rattle.capture.proofs.Exact.{good-holds}
 use Rattle.capture.proofs.Parts.{bytes_take}
 use Rattle.capture.proofs.Unique.{told-good, told-bad}
 use Rattle.octets.specs.declared.refusal.Refusal.{Refusal}
 use Rattle.capture.specs.File.{joined}
 use Rattle.feed.specs.Reading.{behind, read_on}
-use Rattle.feed.specs.Feed.{going_on, stopped, answer_of, while_live}
-use Rattle.feed.specs.declared.reader.Status.{Status}
-use Rattle.feed.specs.declared.reader.Fed.{Fed}
+use Rattle.feed.specs.Feed.{going_on, stopped, answer_of}
 use Rattle.feed.proofs.Blocks.{read_short, read-good, read-bad}
 
 -- ---- a block as it was judged
-pub is-good : {j : Judged} {n : ℕ} (b : ℕ) (s : List ℕ) → of_judged j ≡ judged b s → j ≡ Judged.Good n → good_block b s ≡ true
+pub is-good : {j : Result ℕ Refusal} {n : ℕ} (b : ℕ) (s : List ℕ) → of_answer j ≡ judged b s → j ≡ Ok n → good_block b s ≡ true
 is-good {j} {n} b s p q = (told-good j b s p n q).0
 
-pub is-bad : {j : Judged} {e : Refusal} (b : ℕ) (s : List ℕ) → of_judged j ≡ judged b s → j ≡ Judged.Refused e → good_block b s ≡ false
+pub is-bad : {j : Result ℕ Refusal} {e : Refusal} (b : ℕ) (s : List ℕ) → of_answer j ≡ judged b s → j ≡ Err e → good_block b s ≡ false
 is-bad {j} {e} b s p q = told-bad j b s p e q
 
 -- good only at a number of 32 bits, so that the next number fits
-pub small : {j : Judged} {n : ℕ} (b : ℕ) (s : List ℕ) → Bytes s → of_judged j ≡ judged b (take 512 s) → j ≡ Judged.Good n → b < 2 ^ 32
+pub small : {j : Result ℕ Refusal} {n : ℕ} (b : ℕ) (s : List ℕ) → Bytes s → of_answer j ≡ judged b (take 512 s) → j ≡ Ok n → b < 2 ^ 32
 small b s y p q = (good-holds b (take 512 s) (bytes_take 512 s y) (is-good b (take 512 s) p q)).number
-
--- ---- by the reader's status
-pub while-live : {r : Fed} (x : Status) (a b : Fed) → x ≡ Status.Live → r ≡ a → r ≡ while_live x a b
-while-live x a b p e = rw p e
-
-pub when-ended : {r : Fed} (x : Status) (a b : Fed) → x ≡ Status.Ended → r ≡ b → r ≡ while_live x a b
-when-ended x a b p e = rw p e
-
-pub when-bad : {r : Fed} (x : Status) (a b : Fed) → x ≡ Status.Bad → r ≡ b → r ≡ while_live x a b
-when-bad x a b p e = rw p e
 
 -- ---- the blocks at the front
 module _ (b : ℕ) (s : List ℕ) where

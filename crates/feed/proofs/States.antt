@@ -16,7 +16,7 @@ use Rattle.feed.specs.Feed.{padded, held_by, closed, starting, Canonical, going_
 use Rattle.feed.specs.Runs.{count_in, frames_all, frames_in}
 use Rattle.feed.specs.declared.reader.Status.{Status}
 use Rattle.feed.specs.declared.reader.Reader.{Reader}
-use Rattle.feed.specs.declared.reader.Found.{Found}
+use Rattle.std.specs.Prelude.{Err}
 use Rattle.feed.specs.declared.reader.Fed.{Fed}
 use Rattle.feed.proofs.Lists.{take-pad}
 use Rattle.feed.proofs.Blocks.{rest-short, blocks-few}
@@ -120,39 +120,39 @@ declined-stays f e = (refl, refl)
 
 -- nothing else is refused
 module _ (f : Reader) (e : Refusal) where
-  found-go : (t : Bool) (bs : List (List ℕ)) (d : ℕ) (s : List ℕ) (a : Fed) → (answer_of (record { blocks = bs; due = d; bad = t; rest = s })).found ≡ Found.Refused e → answer_of (record { blocks = bs; due = d; bad = t; rest = s }) ≡ a
+  found-go : (t : Bool) (bs : List (List ℕ)) (d : ℕ) (s : List ℕ) (a : Fed) → (answer_of (record { blocks = bs; due = d; bad = t; rest = s })).found ≡ Err e → answer_of (record { blocks = bs; due = d; bad = t; rest = s }) ≡ a
   unfolding answer_of going_on stopped
   found-go true bs d s a p = let z : ◌≡◌ {A = ℕ} 0 1 = cc in absurd (omega arith)
   found-go false bs d s a p = let z : ◌≡◌ {A = ℕ} 0 1 = cc in absurd (omega arith)
 
-  same-go : (g : Refusal) → (declined f g).found ≡ Found.Refused e → declined f g ≡ declined f e
+  same-go : (g : Refusal) → (declined f g).found ≡ Err e → declined f g ≡ declined f e
   unfolding declined
   same-go g p = let q : g ≡ e = cc in ap (λ (x : Refusal). declined f x) q
 
-  taken-found : (s : List ℕ) → (taken f s).found ≡ Found.Refused e → taken f s ≡ declined f e
+  taken-found : (s : List ℕ) → (taken f s).found ≡ Err e → taken f s ≡ declined f e
   unfolding taken
   taken-found s p = let r = read_on f.block (held_by f ++ s) in found-go r.bad r.blocks r.due r.rest (declined f e) p
 
-  status-found : (x : Status) (a : Fed) → (a.found ≡ Found.Refused e → a ≡ declined f e) → (while_live x a (declined f BadBlock)).found ≡ Found.Refused e → while_live x a (declined f BadBlock) ≡ declined f e
+  status-found : (x : Status) (a : Fed) → (a.found ≡ Err e → a ≡ declined f e) → (while_live x a (declined f BadBlock)).found ≡ Err e → while_live x a (declined f BadBlock) ≡ declined f e
   status-found Status.Live a h p = h p
   status-found Status.Ended a h p = same-go BadBlock p
   status-found Status.Bad a h p = same-go BadBlock p
 
-  long-found : (t : Bool) (a : Fed) → (a.found ≡ Found.Refused e → a ≡ declined f e) → (choose t (declined f BadLength) a).found ≡ Found.Refused e → choose t (declined f BadLength) a ≡ declined f e
+  long-found : (t : Bool) (a : Fed) → (a.found ≡ Err e → a ≡ declined f e) → (choose t (declined f BadLength) a).found ≡ Err e → choose t (declined f BadLength) a ≡ declined f e
   long-found true a h p = same-go BadLength p
   long-found false a h p = h p
 
   -- a refused chunk, and a refused end: the reader stays
-  pub refused-stays : (s : List ℕ) → (after_chunk f s).found ≡ Found.Refused e → after_chunk f s ≡ declined f e
+  pub refused-stays : (s : List ℕ) → (after_chunk f s).found ≡ Err e → after_chunk f s ≡ declined f e
   unfolding after_chunk
   refused-stays s p = long-found (ltb 600 (length s)) _ (status-found f.status (taken f s) (taken-found s)) p
 
-  end-go : (t : Bool) (a : Fed) → (choose t (stopped [] 0 f.block) (complete f.block)).found ≡ Found.Refused e → choose t (stopped [] 0 f.block) (complete f.block) ≡ a
+  end-go : (t : Bool) (a : Fed) → (choose t (stopped [] 0 f.block) (complete f.block)).found ≡ Err e → choose t (stopped [] 0 f.block) (complete f.block) ≡ a
   unfolding stopped complete
   end-go true a p = let z : ◌≡◌ {A = ℕ} 0 1 = cc in absurd (omega arith)
   end-go false a p = let z : ◌≡◌ {A = ℕ} 0 1 = cc in absurd (omega arith)
 
-  pub end_stays : (after_end f).found ≡ Found.Refused e → after_end f ≡ declined f e
+  pub end_stays : (after_end f).found ≡ Err e → after_end f ≡ declined f e
   unfolding after_end finished
   end_stays p = status-found f.status (finished f) (end-go (ltb 0 f.len) (declined f e)) p
 

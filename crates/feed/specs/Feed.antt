@@ -1,6 +1,6 @@
 -- What the reader answers (the change request "Captures over the service cable"): on every reader and every chunk, the reader after
 -- it, the blocks, and what was found.
-use Rattle.std.specs.Prelude.{ℕ, ◌-◌, ◌<◌, ◌≡◌, List, [], ◌++◌, length, take, replicate, ltb}
+use Rattle.std.specs.Prelude.{ℕ, ◌-◌, ◌<◌, ◌≡◌, List, [], ◌++◌, length, take, replicate, ltb, Ok, Err}
 use Rattle.octets.specs.Read.{choose}
 use Rattle.octets.specs.declared.refusal.Refusal.{Refusal}
 use Rattle.octets.specs.declared.refusal.Refusal.TheVariants.{BadLength, BadBlock}
@@ -39,19 +39,19 @@ pub record Canonical (f : Reader) : Type 0 where
 -- ---- answers
 -- n good blocks, and reading goes on at the block number b, of which s is there
 unfoldable pub going_on : List ℕ → ℕ → ℕ → List ℕ → Fed
-going_on good n b s = record { reader = live b s; blocks = padded 1024 good; found = Found.Blocks n }
+going_on good n b s = record { reader = live b s; blocks = padded 1024 good; found = Ok (Found.Blocks n) }
 
 -- n good blocks, and then the bad block number b
 unfoldable pub stopped : List ℕ → ℕ → ℕ → Fed
-stopped good n b = record { reader = closed b Status.Bad; blocks = padded 1024 good; found = Found.Bad n b }
+stopped good n b = record { reader = closed b Status.Bad; blocks = padded 1024 good; found = Ok (Found.Bad n b) }
 
 -- the end, behind a whole block
 unfoldable pub complete : ℕ → Fed
-complete b = record { reader = closed b Status.Ended; blocks = replicate 1024 0; found = Found.Blocks 0 }
+complete b = record { reader = closed b Status.Ended; blocks = replicate 1024 0; found = Ok (Found.Blocks 0) }
 
 -- the reader stays
 unfoldable pub declined : Reader → Refusal → Fed
-declined f e = record { reader = f; blocks = replicate 1024 0; found = Found.Refused e }
+declined f e = record { reader = f; blocks = replicate 1024 0; found = Err e }
 
 unfoldable pub answer_of : Reading → Fed
 answer_of r =

@@ -1,6 +1,7 @@
 -- What a run of calls comes to: the frames and times that the answers hold, the first thing that went wrong, and the
 -- last reader.
-use Rattle.std.specs.Prelude.{ℕ, ◌≤◌, Bool, true, false, List, [], ◌∷◌, ◌++◌, ◌≡◌, length, leb}
+use Rattle.std.specs.Prelude.{ℕ, ◌≤◌, Bool, true, false, List, [], ◌∷◌, ◌++◌, ◌≡◌, length, leb, Result, Ok, Err}
+use Rattle.octets.specs.declared.refusal.Refusal.{Refusal}
 use Rattle.octets.specs.Read.{choose}
 use Rattle.octets.specs.Refusal.{number_of}
 use Rattle.capture.specs.Block.{Timed, frames_of}
@@ -12,15 +13,15 @@ use Rattle.feed.specs.declared.reader.Fed.{Fed}
 
 -- ---- an answer
 -- how many good blocks it holds
-abbrev pub count_in : Found → ℕ
-count_in (Found.Blocks n) = n
-count_in (Found.Bad n b) = n
-count_in (Found.Refused e) = 0
+abbrev pub count_in : Result Found Refusal → ℕ
+count_in (Ok (Found.Blocks n)) = n
+count_in (Ok (Found.Bad n b)) = n
+count_in (Err e) = 0
 
-abbrev pub first_in : Found → First
-first_in (Found.Blocks n) = none
-first_in (Found.Bad n b) = bad_at b
-first_in (Found.Refused e) = refusal (number_of e)
+abbrev pub first_in : Result Found Refusal → First
+first_in (Ok (Found.Blocks n)) = none
+first_in (Ok (Found.Bad n b)) = bad_at b
+first_in (Err e) = refusal (number_of e)
 
 -- the frames of blocks, one after the other
 unfoldable pub frames_all : List (List ℕ) → List Timed
@@ -89,10 +90,10 @@ call_all f (c ∷ cs) = record {
   reader = (call_all (answered f c).reader cs).reader;
 }
 
-abbrev pub is_refused : Found → Bool
-is_refused (Found.Blocks n) = false
-is_refused (Found.Bad n b) = false
-is_refused (Found.Refused e) = true
+abbrev pub is_refused : Result Found Refusal → Bool
+is_refused (Ok (Found.Blocks n)) = false
+is_refused (Ok (Found.Bad n b)) = false
+is_refused (Err e) = true
 
 -- the calls that are not refused, each where it comes
 unfoldable pub accepted : Reader → List Call → List Call

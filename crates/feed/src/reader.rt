@@ -1,10 +1,10 @@
 // A capture that comes in chunks (the change request "Captures over the service cable").
-ghost use Rattle.std.specs.Prelude.{◌≡◌, ◌≤◌, ◌++◌, min, length, take, drop};
+ghost use Rattle.std.specs.Prelude.{◌≡◌, ◌≤◌, length};
 ghost use Rattle.feed.specs.Reading.{read_on};
 ghost use Rattle.feed.specs.Feed.{padded, starting, going_on, stopped, declined, answer_of, taken, after_chunk};
 ghost use Rattle.feed.specs.Feed.{after_end};
 
-use capture::block::{BLOCK, Judged, judge};
+use capture::block::{BLOCK, judge};
 use octets::refusal::Refusal;
 
 // The longest chunk; the bytes of two blocks; and room for what may be held and a chunk.
@@ -24,6 +24,7 @@ pub enum Status {
 
 // The bytes of the block that has begun, with zeros behind them; how many they are; and the number of the block that
 // is due. Once the end is declared or a block is bad, nothing is held, and the number stays.
+// The length stands beside the bytes: no heap, fixed memory.
 #[derive(Clone, Copy)]
 pub struct Reader {
     pub held: [u8; BLOCK],
@@ -32,22 +33,21 @@ pub struct Reader {
     pub status: Status,
 }
 
-// How many good blocks were completed; or how many, and the number of the bad block behind them; or why the call was
-// refused.
+// How many good blocks were completed; or how many, and the number of the bad block behind them.
 #[derive(Clone, Copy)]
 pub enum Found {
     Blocks(usize),
     Bad(usize, u64),
-    Refused(Refusal),
 }
 
-// The reader after a call, the good blocks one behind the other with zeros behind them, and what was found. Two blocks
-// are the most: 511 bytes held and 600 more are fewer than three times 512.
+// The reader after a call, the good blocks one behind the other with zeros behind them, and what was found, or why the
+// call was refused. Two blocks are the most: 511 bytes held and 600 more are fewer than three times 512. How many there
+// are stands in what was found: no heap, fixed memory.
 #[derive(Clone, Copy)]
 pub struct Fed {
     pub reader: Reader,
     pub blocks: [u8; TWO],
-    pub found: Found,
+    pub found: Result<Found, Refusal>,
 }
 
 impl Reader {
@@ -64,52 +64,36 @@ impl Reader {
     }
 }
 
-// Copies the bytes to the front of others.
-fn copy(from: &[u8], to: &mut [u8])
-    requires { length from.now ≤ length to.old }
-    ensures { to.new ≡ take (length from.now) from.now ++ drop (length from.now) to.old }
+// The bytes, and zeros up to N.
+fn padded<const N: usize>(s: &[u8]) -> [u8; N]
+    requires { length s.now ≤ N }
+    ensures { result ≡ padded N s.now }
 {
-    to[..from.len()].copy_from_slice(from);
-}
-
-// The bytes of a block that has begun, and zeros.
-fn pad_one(s: &[u8]) -> [u8; BLOCK]
-    requires { length s.now ≤ 512 }
-    ensures { result ≡ padded 512 s.now }
-{
-    let mut room = [0u8; BLOCK];
-    copy(s, &mut room);
-    room
-}
-
-// The bytes of up to two blocks, and zeros.
-fn pad_two(s: &[u8]) -> [u8; TWO]
-    requires { length s.now ≤ 1024 }
-    ensures { result ≡ padded 1024 s.now }
-{
-    let mut room = [0u8; TWO];
-    copy(s, &mut room);
+    let mut room = [0u8; N];
+    room[..s.len()].copy_from_slice(s);
     room
 }
 
 // n good blocks, and reading goes on.
+#[tactic(auto, unfolding(crate::specs::Feed::going_on))]
 fn go_on(good: &[u8], n: usize, block: u64, rest: &[u8]) -> Fed
     requires { (length good.now ≤ 1024) × (length rest.now ≤ 512) }
     ensures { result ≡ going_on good.now n block rest.now }
 {
     Fed {
         reader: Reader {
-            held: pad_one(rest),
+            held: padded(rest),
             len: rest.len(),
             block,
             status: Status::Live,
         },
-        blocks: pad_two(good),
-        found: Found::Blocks(n),
+        blocks: padded(good),
+        found: Ok(Found::Blocks(n)),
     }
 }
 
 // n good blocks, and then a bad one.
+#[tactic(auto, unfolding(crate::specs::Feed::stopped))]
 fn stop(good: &[u8], n: usize, block: u64) -> Fed
     requires { length good.now ≤ 1024 }
     ensures { result ≡ stopped good.now n block }
@@ -121,19 +105,20 @@ fn stop(good: &[u8], n: usize, block: u64) -> Fed
             block,
             status: Status::Bad,
         },
-        blocks: pad_two(good),
-        found: Found::Bad(n, block),
+        blocks: padded(good),
+        found: Ok(Found::Bad(n, block)),
     }
 }
 
 // The reader stays, and nothing is found.
+#[tactic(auto, unfolding(crate::specs::Feed::declined))]
 fn refuse(reader: Reader, e: Refusal) -> Fed
     ensures { result ≡ declined reader e }
 {
     Fed {
         reader,
         blocks: [0u8; TWO],
-        found: Found::Refused(e),
+        found: Err(e),
     }
 }
 
@@ -146,30 +131,17 @@ fn sort(block: u64, s: &[u8]) -> Fed
         return go_on(&s[0..0], 0, block, s);
     }
     match judge(&s[0..BLOCK], block) {
-        Judged::Good(_) => {
+        Ok(_) => {
             if s.len() < TWO {
                 return go_on(&s[0..BLOCK], 1, block + 1, &s[BLOCK..s.len()]);
             }
             match judge(&s[BLOCK..TWO], block + 1) {
-                Judged::Good(_) => go_on(&s[0..TWO], 2, block + 2, &s[TWO..s.len()]),
-                Judged::Refused(_) => stop(&s[0..BLOCK], 1, block + 1),
+                Ok(_) => go_on(&s[0..TWO], 2, block + 2, &s[TWO..s.len()]),
+                Err(_) => stop(&s[0..BLOCK], 1, block + 1),
             }
         }
-        Judged::Refused(_) => stop(&s[0..0], 0, block),
+        Err(_) => stop(&s[0..0], 0, block),
     }
-}
-
-fn at_most_block(n: usize) -> usize
-    ensures { result ≡ min n 512 }
-{
-    if n < BLOCK { n } else { BLOCK }
-}
-
-// Room for a block and a chunk.
-fn pool_of_bytes() -> [u8; POOL]
-    ensures { length result ≡ 1112 }
-{
-    [0u8; POOL]
 }
 
 // What is held, and the chunk behind it.
@@ -177,38 +149,36 @@ fn take_in(reader: Reader, s: &[u8]) -> Fed
     requires { length s.now ≤ 600 }
     ensures { result ≡ taken reader s.now }
 {
-    let held = reader.held;
-    let len = at_most_block(reader.len);
+    let len = reader.len.min(BLOCK);
     let all = len + s.len();
-    let mut pool = pool_of_bytes();
-    copy(&held[0..len], &mut pool);
-    copy(s, &mut pool[len..all]);
-    sort(reader.block, &pool[0..all])
+    let mut pool = [0u8; POOL];
+    pool[..len].copy_from_slice(&reader.held[..len]);
+    pool[len..all].copy_from_slice(s);
+    sort(reader.block, &pool[..all])
 }
 
 // A chunk of a capture. It completes no block, one or two. A bad one closes the reader, and a good one before it is
 // handed out all the same. Refused: 4 over 600 bytes; then 15 once a block was bad or the end declared. A refused chunk
 // changes nothing.
+#[tactic(auto, unfolding(crate::specs::Feed::after_chunk))]
 pub fn chunk(reader: Reader, s: &[u8]) -> Fed
     ensures { result ≡ after_chunk reader s.now }
 {
     if CHUNK < s.len() {
         return refuse(reader, Refusal::BadLength);
     }
-    let status = reader.status;
-    match status {
+    match reader.status {
         Status::Live => take_in(reader, s),
-        Status::Ended => refuse(reader, Refusal::BadBlock),
-        Status::Bad => refuse(reader, Refusal::BadBlock),
+        Status::Ended | Status::Bad => refuse(reader, Refusal::BadBlock),
     }
 }
 
 // The end of a capture. What is held then is a bad block. Refused: 15 once a block was bad or the end declared.
+#[tactic(auto, unfolding(crate::specs::Feed::after_end, crate::specs::Feed::finished, crate::specs::Feed::complete))]
 pub fn end(reader: Reader) -> Fed
     ensures { result ≡ after_end reader }
 {
-    let status = reader.status;
-    match status {
+    match reader.status {
         Status::Live => {
             if 0 < reader.len {
                 return stop(&[0u8; 0], 0, reader.block);
@@ -221,10 +191,9 @@ pub fn end(reader: Reader) -> Fed
                     status: Status::Ended,
                 },
                 blocks: [0u8; TWO],
-                found: Found::Blocks(0),
+                found: Ok(Found::Blocks(0)),
             }
         }
-        Status::Ended => refuse(reader, Refusal::BadBlock),
-        Status::Bad => refuse(reader, Refusal::BadBlock),
+        Status::Ended | Status::Bad => refuse(reader, Refusal::BadBlock),
     }
 }

@@ -11,8 +11,10 @@ use listen::{Ear, Heard, hear_all, put_end};
 use std::env::Env;
 use std::io;
 use std::io::{Read, Stderr, Stdout, Write};
+use text::field::upto;
 use text::line;
 
+// As capture's: crates.txt does not have this program rest on `capture`.
 const BLOCK: usize = 512;
 
 // Where the capture is read, where the lines go, and where errors are said.
@@ -23,24 +25,16 @@ struct Ways {
     errors: Stderr,
 }
 
-// What is kept from one read to the next: who listens, how many bytes of an unfinished block stand at the input's
-// start, and whether to go on.
-#[derive(Drop)]
+// What is kept from one read to the next: who listens, and how many bytes of an unfinished block stand at the input's
+// start.
+#[derive(Clone, Copy)]
 struct Kept {
     ear: Ear,
     have: usize,
-    more: bool,
-}
-
-// The bytes before a place; all where it lies past the end.
-fn upto(s: &[u8], n: usize) -> &[u8] {
-    if n <= s.len() {
-        return &s[0..n];
-    }
-    s
 }
 
 // Writes text to standard output, or says why it cannot.
+// As `ends::send` but for the words on an error: with them as an argument no call of it would be plainer.
 fn write(ways: &mut Ways, text: &[u8]) -> bool {
     match ways.lines.write_all(text) {
         Ok(()) => true,
@@ -55,26 +49,11 @@ fn write(ways: &mut Ways, text: &[u8]) -> bool {
     }
 }
 
-// Says why the capture cannot be read on. The run is over, without a last line.
-fn unread(ear: Ear, mut errors: Stderr, error: &io::Error) -> Kept {
-    let _ = ends::fail(&mut errors, b"heard: the capture cannot be read", error);
-    Kept {
-        ear,
-        have: 0,
-        more: false,
-    }
-}
-
 // Puts the last line and writes the text out. The run is over.
-fn finish(h: Heard, ways: &mut Ways, text: &mut [u8]) -> Kept {
-    let ear = h.ear;
-    let end = put_end(text, h.next, ear.frames);
+fn finish(h: Heard, ways: &mut Ways, text: &mut [u8]) -> Option<Kept> {
+    let end = put_end(text, h.next, h.ear.frames);
     write(ways, upto(text, end));
-    Kept {
-        ear,
-        have: 0,
-        more: false,
-    }
+    None
 }
 
 // The input has ended: what is left of it is less than a block.
@@ -85,32 +64,32 @@ fn last(
     mem: &mut [u8],
     out: &mut [u8],
     text: &mut [u8],
-) -> Kept {
+) -> Option<Kept> {
     let h = hear_all(ear, rest, mem, out, text, 0);
     finish(h, ways, text)
 }
 
 // Writes out the lines of the whole blocks, and moves what is left behind them to the start.
-fn pass_on(h: Heard, ways: &mut Ways, input: &mut [u8], all: usize, text: &mut [u8]) -> Kept {
+// The input and how much of it is read, here and below: no heap, and what is left moves within the one room.
+fn pass_on(
+    h: Heard,
+    ways: &mut Ways,
+    input: &mut [u8],
+    all: usize,
+    text: &mut [u8],
+) -> Option<Kept> {
+    if !h.more || input.len() < all {
+        return finish(h, ways, text);
+    }
     let rest = all % BLOCK;
-    let whole = all - rest;
-    if !h.more {
-        return finish(h, ways, text);
+    line::shift(&mut input[0..all], all - rest);
+    if !write(ways, upto(text, h.next)) {
+        return None;
     }
-    if input.len() < whole {
-        return finish(h, ways, text);
-    }
-    if input.len() - whole < rest {
-        return finish(h, ways, text);
-    }
-    line::shift(&mut input[0..whole + rest], whole);
-    let ear = h.ear;
-    let sent = write(ways, upto(text, h.next));
-    Kept {
-        ear,
+    Some(Kept {
+        ear: h.ear,
         have: rest,
-        more: sent,
-    }
+    })
 }
 
 // Hears the whole blocks among the first `all` bytes of the input.
@@ -122,12 +101,12 @@ fn heard(
     out: &mut [u8],
     text: &mut [u8],
 ) -> Heard {
-    let rest = all % BLOCK;
-    let whole = all - rest;
-    hear_all(ear, upto(input, whole), mem, out, text, 0)
+    hear_all(ear, upto(input, all - all % BLOCK), mem, out, text, 0)
 }
 
-// Reads once, and hears the blocks that are whole.
+// Reads once, and hears the blocks that are whole; none where the run is over. Where the capture cannot be read on, why
+// is said, and there is no last line.
+// Rooms by themselves, not in a struct: each call lends another part of the input and of the text beside the others.
 fn turn(
     k: Kept,
     ways: &mut Ways,
@@ -135,41 +114,41 @@ fn turn(
     mem: &mut [u8],
     out: &mut [u8],
     text: &mut [u8],
-) -> Kept {
+) -> Option<Kept> {
     let have = k.have;
-    let ear = k.ear;
     if input.len() <= have {
-        return last(ear, ways, input, mem, out, text);
+        return last(k.ear, ways, input, mem, out, text);
     }
     let n = match ways.input.read(&mut input[have..]) {
         Ok(n) => n,
-        Err(error) => return unread(ear, ways.errors, &error),
+        Err(error) => {
+            let what = b"heard: the capture cannot be read";
+            let _ = ends::fail(&mut ways.errors, what, &error);
+            return None;
+        }
     };
     if n == 0 {
-        return last(ear, ways, upto(input, have), mem, out, text);
+        return last(k.ear, ways, upto(input, have), mem, out, text);
     }
     if input.len() - have < n {
-        return last(ear, ways, input, mem, out, text);
+        return last(k.ear, ways, input, mem, out, text);
     }
-    let h = heard(ear, input, have + n, mem, out, text);
+    let h = heard(k.ear, input, have + n, mem, out, text);
     pass_on(h, ways, input, have + n, text)
 }
 
-// Nothing says that the input ends, so the turns are counted down from a number that no run uses up.
+// Nothing says that the input ends, so the turns are counted up to a number that no run reaches.
+// Alike in heard, to_pcap and from_pcap: what is kept and the end differ, so one loop for all would take closures.
 fn run(ways: &mut Ways, input: &mut [u8], mem: &mut [u8], out: &mut [u8], text: &mut [u8]) {
-    let ear = Ear::new();
     let mut k = Kept {
-        ear,
+        ear: Ear::new(),
         have: 0,
-        more: true,
     };
-    let mut turns = u64::MAX;
-    while 0 < turns {
-        k = turn(k, ways, input, mem, out, text);
-        if !k.more {
-            return;
+    for _ in 0..u64::MAX {
+        match turn(k, ways, input, mem, out, text) {
+            Some(next) => k = next,
+            None => return,
         }
-        turns -= 1;
     }
 }
 
@@ -181,15 +160,11 @@ fn usage(rt: &HostRuntime) -> Option<ReadEnd> {
 
 // Opens the file that the first argument names, or says why it cannot. `path` is room for the name.
 fn named(rt: &HostRuntime, path: &mut [u8]) -> Option<ReadEnd> {
-    let n = match rt.arg(1, path) {
-        Ok(n) => n,
-        Err(_) => return usage(rt),
+    let Ok(n) = rt.arg(1, path) else {
+        return usage(rt);
     };
     let name = upto(path, n);
-    if name.len() == 0 {
-        return usage(rt);
-    }
-    if name[0] == b'-' {
+    if name.is_empty() || name[0] == b'-' {
         return usage(rt);
     }
     match ends::open_read(rt, name) {

@@ -1,4 +1,6 @@
 -- Nothing else reads back: a header that is read from just the bytes that are written for it is one that `round_trips` admits.
+use Rattle.ieee802154.specs.declared.addr.Address.{Address}
+use Rattle.std.specs.Prelude.{Option, Some, None}
 use Prim.Native.Nat.{ℕ, ◌+◌, ◌*◌, ◌/◌, ◌%◌, ◌^◌, ◌<◌}
 use native.Mathlib.Nat.{add-zero, zero-add}
 use native.Mathlib.Omega.{arith}
@@ -11,7 +13,6 @@ use lib.Dec.{eqb}
 use borrow.Author.Tests.{lt-ltb, eq-eqb}
 use Rattle.octets.specs.Read.{Reader, got, refused, choose, give, ◌>>=◌, le16, le64}
 use Rattle.octets.specs.Write.{byte_bytes, le16_bytes, le32_bytes, le64_bytes}
-use Rattle.octets.specs.declared.field.ByteField.{ByteField}
 use Rattle.octets.proofs.RoundTrip.{Reads, reads-le16, reads-le64}
 use Rattle.octets.proofs.Spans.{not-refused}
 use Rattle.ieee802154.specs.Control.{bit_of, control_of, word_of, has_sequence, has_addressing, pans, carried}
@@ -21,8 +22,6 @@ use Rattle.ieee802154.specs.Mac.{sequence_of, repr_of, header, sequence_or, has_
 use Rattle.ieee802154.specs.RoundTrips.{has_pan, has_address, same, pans_stand, round_trips}
 use Rattle.ieee802154.specs.declared.addr.Address.TheVariants.{Absent, Short, Extended}
 use Rattle.ieee802154.specs.declared.addr.Pan.{Pan}
-use Rattle.ieee802154.specs.declared.addr.PanField.{PanField}
-use Rattle.ieee802154.specs.declared.addr.AddressField.{AddressField}
 use Rattle.ieee802154.specs.declared.control.AddressingMode.{AddressingMode}
 use Rattle.ieee802154.specs.declared.control.Carried.{Carried}
 use Rattle.ieee802154.specs.declared.addressing.Side.{Side}
@@ -100,25 +99,25 @@ zeros-pass s at n bs q c l z =
       ends = length-append z.front bs ∙ ap (λ k. k + length bs) z.ends ∙ l;
     }
 
-zeros-pan : (s : List ℕ) (at n : ℕ) (x : PanField) (q : List ℕ) → Zeros s at q → pan_field (has_pan x) s at ≡ got x n → (pan_or x ≡ 0) × (n ≡ at + pan_width (has_pan x))
+zeros-pan : (s : List ℕ) (at n : ℕ) (x : Option Pan) (q : List ℕ) → Zeros s at q → pan_field (has_pan x) s at ≡ got x n → (pan_or x ≡ 0) × (n ≡ at + pan_width (has_pan x))
 unfolding pan_field
-zeros-pan s at n PanField.None q z e = (refl, omega (arith, (got-one PanField.None PanField.None at n e).1))
-zeros-pan s at n (PanField.Some x) q z e =
-    let g = got-one (PanField.Some (record { 0 = 0 })) (PanField.Some x) (at + 2) n (rw (zeros-le16 s at q z) at e) in
+zeros-pan s at n None q z e = (refl, omega (arith, (got-one None None at n e).1))
+zeros-pan s at n (Some x) q z e =
+    let g = got-one (Some (record { 0 = 0 })) (Some x) (at + 2) n (rw (zeros-le16 s at q z) at e) in
     (sym (ap pan_or g.0), sym g.1)
 
-zeros-address : (a : AddressField) (s : List ℕ) (at n : ℕ) (q : List ℕ) → Zeros s at (field_bytes a ++ q) → address_field (record { 0 = mode_of a }) s at ≡ got a n → Zeros s n q
+zeros-address : (a : Option Address) (s : List ℕ) (at n : ℕ) (q : List ℕ) → Zeros s at (field_bytes a ++ q) → address_field (record { 0 = mode_of a }) s at ≡ got a n → Zeros s n q
 unfolding address_field le64_bytes le32_bytes le16_bytes
-zeros-address AddressField.None s at n q z e =
-    let g = got-one (AddressField.Some Absent) AddressField.None at n e in
+zeros-address None s at n q z e =
+    let g = got-one (Some Absent) None at n e in
     absurd (omega (arith, ap (λ a. bit_of (has_address a)) g.0))
-zeros-address (AddressField.Some Absent) s at n q z e = subst (λ i. Zeros s i q) (got-one (AddressField.Some Absent) (AddressField.Some Absent) at n e).1 z
-zeros-address (AddressField.Some (Short x)) s at n q z e =
-    let g = got-one (AddressField.Some (Short 0)) (AddressField.Some (Short x)) (at + 2) n (rw (zeros-le16 s at (le16_bytes x ++ q) z) at e) in
+zeros-address (Some Absent) s at n q z e = subst (λ i. Zeros s i q) (got-one (Some Absent) (Some Absent) at n e).1 z
+zeros-address (Some (Short x)) s at n q z e =
+    let g = got-one (Some (Short 0)) (Some (Short x)) (at + 2) n (rw (zeros-le16 s at (le16_bytes x ++ q) z) at e) in
     let o : x ≡ 0 = cc in
     zeros-pass s at n (le16_bytes 0) q refl g.1 (rw o at z)
-zeros-address (AddressField.Some (Extended x)) s at n q z e =
-    let g = got-one (AddressField.Some (Extended (shifted x))) (AddressField.Some (Extended x)) (at + 8) n (rw (zeros-le64 s at x q z) at e) in
+zeros-address (Some (Extended x)) s at n q z e =
+    let g = got-one (Some (Extended (shifted x))) (Some (Extended x)) (at + 8) n (rw (zeros-le64 s at x q z) at e) in
     let o : shifted x ≡ x = cc in
     zeros-pass s at n (le64_bytes 0) q refl g.1 (rw (shifted-zero x o) at z)
 
@@ -156,37 +155,37 @@ unfolding sides
 sides-in p d r s at x n e = two_in (side p.dst d) (side p.src r) sides_of (λ y. y.dst) (λ y. y.src) (λ a b. refl) (λ a b. refl) s at x n e
 
 -- a PAN is there where it is carried, and an address always
-pan-has : (t : Bool) (s : List ℕ) (at : ℕ) (p : PanField) (n : ℕ) → pan_field t s at ≡ got p n → has_pan p ≡ t
+pan-has : (t : Bool) (s : List ℕ) (at : ℕ) (p : Option Pan) (n : ℕ) → pan_field t s at ≡ got p n → has_pan p ≡ t
 unfolding pan_field
 pan-has true s at p n e =
-    let a = split le16 (λ x. give (PanField.Some (record { 0 = x }))) s at p n e in
-    sym (ap has_pan (got-one (PanField.Some (record { 0 = a.part })) p a.after n a.rest).0)
-pan-has false s at p n e = sym (ap has_pan (got-one PanField.None p at n e).0)
+    let a = split le16 (λ x. give (Some (record { 0 = x }))) s at p n e in
+    sym (ap has_pan (got-one (Some (record { 0 = a.part })) p a.after n a.rest).0)
+pan-has false s at p n e = sym (ap has_pan (got-one None p at n e).0)
 
-address-has : (m : AddressingMode) (s : List ℕ) (at : ℕ) (a : AddressField) (n : ℕ) → address_field m s at ≡ got a n → has_address a ≡ true
+address-has : (m : AddressingMode) (s : List ℕ) (at : ℕ) (a : Option Address) (n : ℕ) → address_field m s at ≡ got a n → has_address a ≡ true
 unfolding address_field
 address-has m s at a n e = go (eqb m.0 0) (eqb m.0 2) (eqb m.0 3) e
   where
-    given : (x a : AddressField) (k n : ℕ) → has_address x ≡ true → got x k ≡ got a n → has_address a ≡ true
+    given : (x a : Option Address) (k n : ℕ) → has_address x ≡ true → got x k ≡ got a n → has_address a ≡ true
     given x a k n h e = sym (ap has_address (got-one x a k n e).0) ∙ h
 
-    go : (t u v : Bool) → choose t (got (AddressField.Some Absent) at) (choose u (◌>>=◌ le16 (λ x. give (AddressField.Some (Short x))) s at) (choose v (◌>>=◌ le64 (λ x. give (AddressField.Some (Extended x))) s at) (refused 3))) ≡ got a n → has_address a ≡ true
-    go true u v e = given (AddressField.Some Absent) a at n refl e
-    go false true v e = let b = split le16 (λ x. give (AddressField.Some (Short x))) s at a n e in given (AddressField.Some (Short b.part)) a b.after n refl b.rest
-    go false false true e = let b = split le64 (λ x. give (AddressField.Some (Extended x))) s at a n e in given (AddressField.Some (Extended b.part)) a b.after n refl b.rest
+    go : (t u v : Bool) → choose t (got (Some Absent) at) (choose u (◌>>=◌ le16 (λ x. give (Some (Short x))) s at) (choose v (◌>>=◌ le64 (λ x. give (Some (Extended x))) s at) (refused 3))) ≡ got a n → has_address a ≡ true
+    go true u v e = given (Some Absent) a at n refl e
+    go false true v e = let b = split le16 (λ x. give (Some (Short x))) s at a n e in given (Some (Short b.part)) a b.after n refl b.rest
+    go false false true e = let b = split le64 (λ x. give (Some (Extended x))) s at a n e in given (Some (Extended b.part)) a b.after n refl b.rest
     go false false false e = not-refused _ 3 e
 
 -- a side that is read two bytes of 0 too early leaves two bytes of 0
-zeros-side : (p : PanField) (a : AddressField) (s : List ℕ) (at n : ℕ) (q : List ℕ) → Zeros s at (pan_bytes p ++ (field_bytes a ++ q)) → side (has_pan p) (record { 0 = mode_of a }) s at ≡ got (side_of p a) n → Zeros s n q
+zeros-side : (p : Option Pan) (a : Option Address) (s : List ℕ) (at n : ℕ) (q : List ℕ) → Zeros s at (pan_bytes p ++ (field_bytes a ++ q)) → side (has_pan p) (record { 0 = mode_of a }) s at ≡ got (side_of p a) n → Zeros s n q
 unfolding le16_bytes
-zeros-side PanField.None a s at n q z e =
-    let x = side-in false (record { 0 = mode_of a }) s at (side_of PanField.None a) n e in
-    let y = zeros-pan s at x.middle PanField.None (field_bytes a ++ q) z x.first_read in
+zeros-side None a s at n q z e =
+    let x = side-in false (record { 0 = mode_of a }) s at (side_of None a) n e in
+    let y = zeros-pan s at x.middle None (field_bytes a ++ q) z x.first_read in
     let m : x.middle ≡ at = omega arith in
     zeros-address a s at n q z (rw m at x.second-read)
-zeros-side (PanField.Some w) a s at n q z e =
-    let x = side-in true (record { 0 = mode_of a }) s at (side_of (PanField.Some w) a) n e in
-    let y = zeros-pan s at x.middle (PanField.Some w) (le16_bytes w.0 ++ (field_bytes a ++ q)) z x.first_read in
+zeros-side (Some w) a s at n q z e =
+    let x = side-in true (record { 0 = mode_of a }) s at (side_of (Some w) a) n e in
+    let y = zeros-pan s at x.middle (Some w) (le16_bytes w.0 ++ (field_bytes a ++ q)) z x.first_read in
     zeros-address a s x.middle n q (zeros-pass s at x.middle (le16_bytes 0) (field_bytes a ++ q) refl (sym y.1) (rw y.0 at z)) x.second-read
 
 -- ---- security is off: no auxiliary security header is written, and none can be read from what is
@@ -204,14 +203,14 @@ auxiliary-not-three b e = go (eqb (b / 32 % 2) 1) (eqb (b / 8 % 4) 0) (eqb (b / 
     go false false false true e = omega arith
     go false false false false e = omega arith
 
-width_is : (a : AddressField) → address_width (record { 0 = mode_of a }) ≡ field_length a
-width_is AddressField.None = refl
-width_is (AddressField.Some Absent) = refl
-width_is (AddressField.Some (Short x)) = refl
-width_is (AddressField.Some (Extended x)) = refl
+width_is : (a : Option Address) → address_width (record { 0 = mode_of a }) ≡ field_length a
+width_is None = refl
+width_is (Some Absent) = refl
+width_is (Some (Short x)) = refl
+width_is (Some (Extended x)) = refl
 
 -- the fields behind the first bytes, two or three, read as they were written
-record Fields (c : Bool) (dp : PanField) (da : AddressField) (sp : PanField) (sa : AddressField) (s : List ℕ) (f m : ℕ) : Type 0 where
+record Fields (c : Bool) (dp : Option Pan) (da : Option Address) (sp : Option Pan) (sa : Option Address) (s : List ℕ) (f m : ℕ) : Type 0 where
   front : List ℕ
   in-front : length front ≡ f
   stands : s ≡ front ++ written_fields c dp da sp sa
@@ -220,15 +219,15 @@ record Fields (c : Bool) (dp : PanField) (da : AddressField) (sp : PanField) (sa
   are-read : TwoIn (side (has_pan dp) (record { 0 = mode_of da })) (side (has_pan sp) (record { 0 = mode_of sa })) s f (side_of dp da) (side_of sp sa) m
 
 -- without a destination PAN two bytes of 0 stand in its place, and the destination is read too early
-zeros-source : (c : Bool) (da : AddressField) (sp : PanField) (sa : AddressField) (s : List ℕ) (f m : ℕ) (x : Fields c PanField.None da sp sa s f m) → Zeros s x.are-read.middle (choose c (field_bytes sa) (le16_bytes (pan_or sp) ++ field_bytes sa))
+zeros-source : (c : Bool) (da : Option Address) (sp : Option Pan) (sa : Option Address) (s : List ℕ) (f m : ℕ) (x : Fields c None da sp sa s f m) → Zeros s x.are-read.middle (choose c (field_bytes sa) (le16_bytes (pan_or sp) ++ field_bytes sa))
 zeros-source c da sp sa s f m x =
-    zeros-side PanField.None da s f x.are-read.middle (choose c (field_bytes sa) (le16_bytes (pan_or sp) ++ field_bytes sa)) (record { front = x.front; stands = x.stands; ends = x.in-front }) x.are-read.first_read
+    zeros-side None da s f x.are-read.middle (choose c (field_bytes sa) (le16_bytes (pan_or sp) ++ field_bytes sa)) (record { front = x.front; stands = x.stands; ends = x.in-front }) x.are-read.first_read
 
 -- with one, the source PAN that is not there is written as two bytes of 0
-zeros-behind : (w : Pan) (da sa : AddressField) (s : List ℕ) (f m : ℕ) (x : Fields false (PanField.Some w) da PanField.None sa s f m) → Zeros s x.are-read.middle (field_bytes sa)
+zeros-behind : (w : Pan) (da sa : Option Address) (s : List ℕ) (f m : ℕ) (x : Fields false (Some w) da None sa s f m) → Zeros s x.are-read.middle (field_bytes sa)
 unfolding le16_bytes
 zeros-behind w da sa s f m x =
-    let y = spans-side true (record { 0 = mode_of da }) s f (side_of (PanField.Some w) da) x.are-read.middle (omega (arith, x.is-long)) x.are-read.first_read in
+    let y = spans-side true (record { 0 = mode_of da }) s f (side_of (Some w) da) x.are-read.middle (omega (arith, x.is-long)) x.are-read.first_read in
     let b = le16_bytes w.0 ++ field_bytes da in
     record {
       front = x.front ++ b;
@@ -236,23 +235,23 @@ zeros-behind w da sa s f m x =
       ends = length-append x.front b ∙ omega (arith, y.0, x.in-front, length-field da, width_is da);
     }
 
-never-secured : (c : Bool) (dp : PanField) (da : AddressField) (sp : PanField) (sa : AddressField) (s : List ℕ) (f m : ℕ) → Fields c dp da sp sa s f m → length s ≡ m + (1 + auxiliary_length (get_or s m 0)) → ⊥
-never-secured true (PanField.Some w) da PanField.None sa s f m x e = omega (arith, x.is-long, x.ends)
-never-secured true (PanField.Some w) da (PanField.Some v) sa s f m x e = omega (arith, x.is-long, x.ends)
-never-secured true PanField.None da (PanField.Some v) sa s f m x e = omega (arith, x.is-long, x.ends)
-never-secured false (PanField.Some w) da (PanField.Some v) sa s f m x e = omega (arith, x.is-long, x.ends)
-never-secured false PanField.None da PanField.None sa s f m x e = auxiliary-not-three (get_or s m 0) (omega (arith, x.is-long, x.ends))
-never-secured true PanField.None da PanField.None sa s f m x e =
-    let z = zeros-source true da PanField.None sa s f m x in
-    zeros-end s m (zeros-side PanField.None sa s x.are-read.middle m [] (rw (append-nil (field_bytes sa)) z) x.are-read.second-read) e
-never-secured false PanField.None da (PanField.Some v) sa s f m x e =
-    let z = zeros-source false da (PanField.Some v) sa s f m x in
-    zeros-end s m (zeros-side (PanField.Some v) sa s x.are-read.middle m [] (rw (append-nil (field_bytes sa)) z) x.are-read.second-read) e
-never-secured false (PanField.Some w) da PanField.None sa s f m x e =
+never-secured : (c : Bool) (dp : Option Pan) (da : Option Address) (sp : Option Pan) (sa : Option Address) (s : List ℕ) (f m : ℕ) → Fields c dp da sp sa s f m → length s ≡ m + (1 + auxiliary_length (get_or s m 0)) → ⊥
+never-secured true (Some w) da None sa s f m x e = omega (arith, x.is-long, x.ends)
+never-secured true (Some w) da (Some v) sa s f m x e = omega (arith, x.is-long, x.ends)
+never-secured true None da (Some v) sa s f m x e = omega (arith, x.is-long, x.ends)
+never-secured false (Some w) da (Some v) sa s f m x e = omega (arith, x.is-long, x.ends)
+never-secured false None da None sa s f m x e = auxiliary-not-three (get_or s m 0) (omega (arith, x.is-long, x.ends))
+never-secured true None da None sa s f m x e =
+    let z = zeros-source true da None sa s f m x in
+    zeros-end s m (zeros-side None sa s x.are-read.middle m [] (rw (append-nil (field_bytes sa)) z) x.are-read.second-read) e
+never-secured false None da (Some v) sa s f m x e =
+    let z = zeros-source false da (Some v) sa s f m x in
+    zeros-end s m (zeros-side (Some v) sa s x.are-read.middle m [] (rw (append-nil (field_bytes sa)) z) x.are-read.second-read) e
+never-secured false (Some w) da None sa s f m x e =
     let z = zeros-behind w da sa s f m x in
-    zeros-end s m (zeros-side PanField.None sa s x.are-read.middle m [] (rw (append-nil (field_bytes sa)) z) x.are-read.second-read) e
+    zeros-end s m (zeros-side None sa s x.are-read.middle m [] (rw (append-nil (field_bytes sa)) z) x.are-read.second-read) e
 
-secured-not : (t c : Bool) (dp : PanField) (da : AddressField) (sp : PanField) (sa : AddressField) (s : List ℕ) (f m : ℕ) → Fields c dp da sp sa s f m → length s ≡ m + auxiliary_width t s m → t ≡ false
+secured-not : (t c : Bool) (dp : Option Pan) (da : Option Address) (sp : Option Pan) (sa : Option Address) (s : List ℕ) (f m : ℕ) → Fields c dp da sp sa s f m → length s ≡ m + auxiliary_width t s m → t ≡ false
 secured-not true c dp da sp sa s f m x e = absurd (never-secured c dp da sp sa s f m x e)
 secured-not false c dp da sp sa s f m x e = refl
 
@@ -267,9 +266,9 @@ counted false true false f a b e = absurd (omega arith)
 counted false false true f a b e = absurd (omega arith)
 counted false false false f a b e = absurd (omega arith)
 
-source-zero : (c : Bool) (dp : PanField) (da : AddressField) (sp : PanField) (sa : AddressField) (s : List ℕ) (f m : ℕ) → Fields c dp da sp sa s f m → has_pan dp ≡ false → pan_or sp ≡ 0
-source-zero c (PanField.Some w) da sp sa s f m x h = absurd (omega (arith, ap bit_of h))
-source-zero c PanField.None da sp sa s f m x h =
+source-zero : (c : Bool) (dp : Option Pan) (da : Option Address) (sp : Option Pan) (sa : Option Address) (s : List ℕ) (f m : ℕ) → Fields c dp da sp sa s f m → has_pan dp ≡ false → pan_or sp ≡ 0
+source-zero c (Some w) da sp sa s f m x h = absurd (omega (arith, ap bit_of h))
+source-zero c None da sp sa s f m x h =
     let y = side-in (has_pan sp) (record { 0 = mode_of sa }) s x.are-read.middle (side_of sp sa) m x.are-read.second-read in
     (zeros-pan s x.are-read.middle y.middle sp (choose c (field_bytes sa) (le16_bytes (pan_or sp) ++ field_bytes sa)) (zeros-source c da sp sa s f m x) y.first_read).0
 
@@ -293,7 +292,7 @@ abbrev after_front : Repr → ℕ
 after_front h = 2 + choose (suppresses h) 0 1
 
 abbrev Rested : Repr → ℕ → Type 0
-Rested h q = RestIn (control_for h) (choose (suppresses h) ByteField.None (sequence_of (control_for h) q)) (after_front h) (bytes_of h) h (length_of h)
+Rested h q = RestIn (control_for h) (choose (suppresses h) None (sequence_of (control_for h) q)) (after_front h) (bytes_of h) h (length_of h)
 
 fields-are : (h : Repr) (q : ℕ) (x : Rested h q) → x.fields ≡ fields_of h
 unfolding repr_of
@@ -304,7 +303,7 @@ sequence-has : (h : Repr) (q : ℕ) → Rested h q → has_sequence (control_for
 unfolding repr_of sequence_of
 sequence-has h q x e = go (suppresses h) h.sequence_number (ap (λ r. r.sequence_number) x.is-header ∙ rw e)
   where
-    go : (t : Bool) (f : ByteField) → f ≡ choose t ByteField.None (ByteField.Some q) → choose t true (has_byte f) ≡ true
+    go : (t : Bool) (f : Option ℕ) → f ≡ choose t None (Some q) → choose t true (has_byte f) ≡ true
     go true f e = refl
     go false f e = ap has_byte e
 
@@ -343,7 +342,7 @@ unaddressed h m e l =
     let z : pan_or h.dst_pan_id ≡ 0 = sym (ap (λ x. pan_or x.dst.pan) g.0) in
     unaddressed-go h.pan_id_compression h.security_enabled (field_length h.dst_addr) (field_length h.src_addr) (after_front h) (bytes_of h) d s (pan-byte h ∙ ap (λ n. n % 256) z) (sym (length-is h) ∙ rw (← g.1) at l)
 
-front-go : (t : Bool) (w : ℕ) (q : ByteField) → length (le16_bytes w ++ sequence_bytes t q) ≡ 2 + choose t 0 1
+front-go : (t : Bool) (w : ℕ) (q : Option ℕ) → length (le16_bytes w ++ sequence_bytes t q) ≡ 2 + choose t 0 1
 unfolding byte_bytes le16_bytes
 front-go true w q = refl
 front-go false w q = refl
@@ -415,7 +414,7 @@ domain-in h e =
     let k = control_for h in
     let z : HeaderIn k s h (length_of h) = subst (λ j. HeaderIn j s h (length_of h)) (in_bytes h ∙ masked_same h b.0 b.1) y in
     let q = z.sequence in
-    let x : Rested h q = subst (λ t. RestIn k (choose t ByteField.None (sequence_of k q)) (2 + choose t 0 1) s h (length_of h)) (omits-is h) z.rest in
+    let x : Rested h q = subst (λ t. RestIn k (choose t None (sequence_of k q)) (2 + choose t 0 1) s h (length_of h)) (omits-is h) z.rest in
     let m = after_front h + addressing_width k in
     let l = auxiliary-length h.security_enabled s m (length_of h) x.fields_within x.auxiliary-read in
     let a = addressing-in h m l.0 (x.fields_read ∙ ap (λ i. got i m) (fields-are h q x)) in
@@ -445,7 +444,7 @@ zero_test : (t : Bool) (n : ℕ) → (t ≡ false → n ≡ 0) → choose t true
 zero_test true n e = refl
 zero_test false n e = eq-eqb n 0 (e refl)
 
-pans-admitted : (c : Bool) (p : Carried) (d s : PanField) → PansStand c p d s → pans_stand c p d s ≡ true
+pans-admitted : (c : Bool) (p : Carried) (d s : Option Pan) → PansStand c p d s → pans_stand c p d s ≡ true
 unfolding pans_stand
 pans-admitted c p d s x =
     and _ _ (same_of (has_pan d) p.dst (ap (λ y. y.dst) x.are-carried))

@@ -1,4 +1,6 @@
 -- How long a header is. Its length is the sum of the widths of its fields, which the bytes read say, and it ends within the frame.
+use Rattle.ieee802154.specs.declared.addr.Address.{Address}
+use Rattle.std.specs.Prelude.{Option, Some, None}
 use Prim.Native.Nat.{ℕ, ◌+◌, ◌*◌, ◌≤◌}
 use native.Mathlib.Omega.{arith}
 use mathlib.Core.List.{List}
@@ -8,7 +10,6 @@ use lib.ListN.{length, get_or}
 use lib.Dec.{eqb, ltb}
 use borrow.Author.Tests.{ltb-false}
 use Rattle.octets.specs.Read.{is, refused, Placed, Read, Reader, got, and_then, choose, branch, ◌>>=◌, give, refuse, byte, le16, le64, skip}
-use Rattle.octets.specs.declared.field.ByteField.{ByteField}
 use Rattle.octets.proofs.Spans.{Spans, not-refused, spans-give, spans-refuse, spans-then, spans-branch, spans-byte, spans-skip, spans-le16, spans-le64}
 use Rattle.ieee802154.specs.Control.{control_of, supported, omits_sequence, has_addressing, carried}
 use Rattle.ieee802154.specs.Addressing.{pan_field, address_field, side, sides, addressing}
@@ -16,8 +17,6 @@ use Rattle.ieee802154.specs.Security.{auxiliary_length, auxiliary}
 use Rattle.ieee802154.proofs.ReadSteps.{after_is}
 use Rattle.ieee802154.specs.Mac.{sequence_of, repr_of, header_rest, after_control, header, mac}
 use Rattle.ieee802154.specs.declared.addr.Address.TheVariants.{Short, Extended}
-use Rattle.ieee802154.specs.declared.addr.PanField.{PanField}
-use Rattle.ieee802154.specs.declared.addr.AddressField.{AddressField}
 use Rattle.ieee802154.specs.declared.control.AddressingMode.{AddressingMode}
 use Rattle.ieee802154.specs.declared.control.Control.{Control}
 use Rattle.ieee802154.specs.declared.control.Carried.{Carried}
@@ -46,8 +45,8 @@ abbrev pub fields_at : Control → ℕ
 fields_at k = 2 + choose (omits_sequence k) 0 1
 
 -- the byte as a field, unless it is left out
-abbrev pub sequence_in : Control → ℕ → ByteField
-sequence_in k q = choose (omits_sequence k) ByteField.None (sequence_of k q)
+abbrev pub sequence_in : Control → ℕ → Option ℕ
+sequence_in k q = choose (omits_sequence k) None (sequence_of k q)
 
 -- frame control, sequence number, addressing fields, auxiliary security header
 abbrev pub control_in : List ℕ → Control
@@ -62,7 +61,7 @@ header_length s =
 -- ---- how far each reader goes
 spans-pan : (t : Bool) → Spans (pan_field t) (pan_width t)
 unfolding pan_field
-spans-pan t = spans-branch t (◌>>=◌ le16 (λ x. give (PanField.Some (record { 0 = x })))) (give PanField.None) 2 0 (spans-then le16 (λ x. give _) 2 0 spans-le16 (λ x. spans-give _)) (spans-give _)
+spans-pan t = spans-branch t (◌>>=◌ le16 (λ x. give (Some (record { 0 = x })))) (give None) 2 0 (spans-then le16 (λ x. give _) 2 0 spans-le16 (λ x. spans-give _)) (spans-give _)
 
 spans-address : (m : AddressingMode) → Spans (address_field m) (address_width m)
 unfolding address_field
@@ -71,11 +70,11 @@ spans-address m =
     (spans-branch (eqb m.0 2) short (branch (eqb m.0 3) long (refuse 3)) 2 (choose (eqb m.0 3) 8 0) (spans-then le16 (λ x. give _) 2 0 spans-le16 (λ x. spans-give _))
     (spans-branch (eqb m.0 3) long (refuse 3) 8 0 (spans-then le64 (λ x. give _) 8 0 spans-le64 (λ x. spans-give _)) (spans-refuse 3 0)))
   where
-    short : Reader AddressField
-    short = ◌>>=◌ le16 (λ x. give (AddressField.Some (Short x)))
+    short : Reader (Option Address)
+    short = ◌>>=◌ le16 (λ x. give (Some (Short x)))
 
-    long : Reader AddressField
-    long = ◌>>=◌ le64 (λ x. give (AddressField.Some (Extended x)))
+    long : Reader (Option Address)
+    long = ◌>>=◌ le64 (λ x. give (Some (Extended x)))
 
 pub spans-side : (t : Bool) (m : AddressingMode) → Spans (side t m) (pan_width t + (address_width m + 0))
 unfolding side
@@ -138,7 +137,7 @@ le16-at s w n e =
     omega arith
 
 -- what was read from a place on, after a frame control field k and a sequence number q
-pub record RestIn (k : Control) (q : ByteField) (at : ℕ) (s : List ℕ) (h : Repr) (n : ℕ) : Type 0 where
+pub record RestIn (k : Control) (q : Option ℕ) (at : ℕ) (s : List ℕ) (h : Repr) (n : ℕ) : Type 0 where
   pub fields : Addressing
   pub is-supported : supported k ≡ true
   pub fields_read : addressing k s at ≡ got fields (at + addressing_width k)
@@ -151,7 +150,7 @@ pub record HeaderIn (k : Control) (s : List ℕ) (h : Repr) (n : ℕ) : Type 0 w
   pub sequence : ℕ
   pub rest : RestIn k (sequence_in k sequence) (fields_at k) s h n
 
-rest-go : (k : Control) (q : ByteField) (at : ℕ) (s : List ℕ) (h : Repr) (n : ℕ) (t : Bool) → supported k ≡ t → at ≤ length s → choose t (◌>>=◌ (addressing k) (λ a. ◌>>=◌ (auxiliary k.security_enabled) (λ u. give (repr_of k q a))) s at) (refused 3) ≡ got h n → RestIn k q at s h n
+rest-go : (k : Control) (q : Option ℕ) (at : ℕ) (s : List ℕ) (h : Repr) (n : ℕ) (t : Bool) → supported k ≡ t → at ≤ length s → choose t (◌>>=◌ (addressing k) (λ a. ◌>>=◌ (auxiliary k.security_enabled) (λ u. give (repr_of k q a))) s at) (refused 3) ≡ got h n → RestIn k q at s h n
 rest-go k q at s h n true t l e =
     let x = split (addressing k) (λ a. ◌>>=◌ (auxiliary k.security_enabled) (λ u. give (repr_of k q a))) s at h n e in
     let y = split (auxiliary k.security_enabled) (λ u. give (repr_of k q x.part)) s x.after h n x.rest in
@@ -167,12 +166,12 @@ rest-go k q at s h n true t l e =
     }
 rest-go k q at s h n false t l e = not-refused _ 3 e
 
-rest_in : (k : Control) (q : ByteField) (at : ℕ) (s : List ℕ) (h : Repr) (n : ℕ) → at ≤ length s → header_rest k q s at ≡ got h n → RestIn k q at s h n
+rest_in : (k : Control) (q : Option ℕ) (at : ℕ) (s : List ℕ) (h : Repr) (n : ℕ) → at ≤ length s → header_rest k q s at ≡ got h n → RestIn k q at s h n
 unfolding header_rest
 rest_in k q at s h n l e = rest-go k q at s h n (supported k) refl l e
 
-after-go : (k : Control) (s : List ℕ) (h : Repr) (n : ℕ) (t : Bool) → omits_sequence k ≡ t → 2 ≤ length s → choose t (header_rest k ByteField.None s 2) (◌>>=◌ byte (λ q. header_rest k (sequence_of k q)) s 2) ≡ got h n → HeaderIn k s h n
-after-go k s h n true t l e = record { sequence = 0; rest = rw t (rest_in k ByteField.None 2 s h n l e) }
+after-go : (k : Control) (s : List ℕ) (h : Repr) (n : ℕ) (t : Bool) → omits_sequence k ≡ t → 2 ≤ length s → choose t (header_rest k None s 2) (◌>>=◌ byte (λ q. header_rest k (sequence_of k q)) s 2) ≡ got h n → HeaderIn k s h n
+after-go k s h n true t l e = record { sequence = 0; rest = rw t (rest_in k None 2 s h n l e) }
 after-go k s h n false t l e =
     let y = split byte (λ q. header_rest k (sequence_of k q)) s 2 h n e in
     let v = spans-byte s 2 y.part y.after l y.first in

@@ -1,5 +1,7 @@
 -- Written, then read: exactly the headers that `round_trips` admits come back as they were, with just the bytes written, wherever these stand
 -- and whatever follows.
+use Rattle.ieee802154.specs.declared.addr.Pan.{Pan}
+use Rattle.std.specs.Prelude.{Option, Some, None}
 use Prim.Native.Nat.{ℕ, ◌+◌, ◌/◌, ◌%◌, ◌≤◌, ◌<◌}
 use native.Mathlib.Nat.{zero-add}
 use native.Mathlib.Omega.{arith}
@@ -11,7 +13,6 @@ use lib.Dec.{eqb, ltb}
 use borrow.Author.Tests.{ltb-true, lt-ltb, le-ltb, eqb-true, eq-eqb, ne_eqb, not-true, le-leb}
 use Rattle.octets.specs.Read.{is, refused, Reader, got, choose, branch, give, refuse, ◌>>=◌, byte, le16, le64}
 use Rattle.octets.specs.Write.{over, byte_bytes, be16_bytes, be32_bytes, be64_bytes, le16_bytes, le64_bytes}
-use Rattle.octets.specs.declared.field.ByteField.{ByteField}
 use Rattle.octets.proofs.Steps.{and-true}
 use Rattle.octets.proofs.RoundTrip.{Reads, reads_then, reads-map, reads-give, reads_byte, reads-be16, reads-be64, reads-le16, reads-le64}
 use Rattle.ieee802154.specs.Address.{is_present, from_bytes, address_bytes}
@@ -22,8 +23,6 @@ use Rattle.ieee802154.specs.Security.{auxiliary}
 use Rattle.ieee802154.specs.Mac.{sequence_of, repr_of, header_rest, after_control, header, mac, sequence_or, has_byte, suppresses, control_for, length_of, front_bytes, source_bytes, back_bytes, bytes_of}
 use Rattle.ieee802154.specs.RoundTrips.{has_pan, has_address, same, pans_stand, round_trips}
 use Rattle.ieee802154.specs.declared.addr.Address.TheVariants.{Absent, Short, Extended}
-use Rattle.ieee802154.specs.declared.addr.PanField.{PanField}
-use Rattle.ieee802154.specs.declared.addr.AddressField.{AddressField}
 use Rattle.ieee802154.specs.declared.control.Control.{Control}
 use Rattle.ieee802154.specs.declared.control.Carried.{Carried}
 use Rattle.ieee802154.specs.declared.addressing.Side.{Side}
@@ -115,11 +114,11 @@ masked k =
 pub control-back : (k : Control) → control_of (word_of k) ≡ masked k
 control-back k = cc (word-type k, word-security k, word-pending k, word-ack k, word-compression k, word-suppressed k, word-dst k, word-version k, word-src k)
 
-mode_small : (a : AddressField) → mode_of a % 4 ≡ mode_of a
-mode_small AddressField.None = refl
-mode_small (AddressField.Some Absent) = refl
-mode_small (AddressField.Some (Short x)) = refl
-mode_small (AddressField.Some (Extended x)) = refl
+mode_small : (a : Option Address) → mode_of a % 4 ≡ mode_of a
+mode_small None = refl
+mode_small (Some Absent) = refl
+mode_small (Some (Short x)) = refl
+mode_small (Some (Extended x)) = refl
 
 pub masked_same : (h : Repr) → h.frame_type.0 < 8 → h.frame_version.0 < 4 → masked (control_for h) ≡ control_for h
 masked_same h t v =
@@ -128,50 +127,50 @@ masked_same h t v =
     rw (e, f, mode_small h.dst_addr, mode_small h.src_addr)
 
 -- ---- the addressing fields
-abbrev pub pan_bytes : PanField → List ℕ
-pan_bytes PanField.None = []
-pan_bytes (PanField.Some x) = le16_bytes x.0
+abbrev pub pan_bytes : Option Pan → List ℕ
+pan_bytes None = []
+pan_bytes (Some x) = le16_bytes x.0
 
-reads-pan : (p : PanField) → Reads (pan_field (has_pan p)) (pan_bytes p) p
+reads-pan : (p : Option Pan) → Reads (pan_field (has_pan p)) (pan_bytes p) p
 unfolding pan_field
-reads-pan PanField.None = reads-give PanField.None
-reads-pan (PanField.Some x) = reads-map le16 (λ n. PanField.Some (record { 0 = n })) (le16_bytes x.0) x.0 (reads-le16 x.0)
+reads-pan None = reads-give None
+reads-pan (Some x) = reads-map le16 (λ n. Some (record { 0 = n })) (le16_bytes x.0) x.0 (reads-le16 x.0)
 
-reads-address : (a : AddressField) → has_address a ≡ true → Reads (address_field (record { 0 = mode_of a })) (field_bytes a) a
+reads-address : (a : Option Address) → has_address a ≡ true → Reads (address_field (record { 0 = mode_of a })) (field_bytes a) a
 unfolding address_field
-reads-address AddressField.None h = absurd (omega (arith, ap bit_of h))
-reads-address (AddressField.Some Absent) h = reads-give (AddressField.Some Absent)
-reads-address (AddressField.Some (Short x)) h = reads-map le16 (λ n. AddressField.Some (Short n)) (le16_bytes x) x (reads-le16 x)
-reads-address (AddressField.Some (Extended x)) h = reads-map le64 (λ n. AddressField.Some (Extended n)) (le64_bytes x) x (reads-le64 x)
+reads-address None h = absurd (omega (arith, ap bit_of h))
+reads-address (Some Absent) h = reads-give (Some Absent)
+reads-address (Some (Short x)) h = reads-map le16 (λ n. Some (Short n)) (le16_bytes x) x (reads-le16 x)
+reads-address (Some (Extended x)) h = reads-map le64 (λ n. Some (Extended n)) (le64_bytes x) x (reads-le64 x)
 
-abbrev pub side_of : PanField → AddressField → Side
+abbrev pub side_of : Option Pan → Option Address → Side
 side_of p a = record { pan = p; addr = a }
 
 abbrev pub sides_of : Side → Side → Addressing
 sides_of a b = record { dst = a; src = b }
 
-reads-side : (p : PanField) (a : AddressField) → has_address a ≡ true → Reads (side (has_pan p) (record { 0 = mode_of a })) (pan_bytes p ++ field_bytes a) (side_of p a)
+reads-side : (p : Option Pan) (a : Option Address) → has_address a ≡ true → Reads (side (has_pan p) (record { 0 = mode_of a })) (pan_bytes p ++ field_bytes a) (side_of p a)
 unfolding side
 reads-side p a h =
     reads_then (pan_field (has_pan p)) (λ q. ◌>>=◌ (address_field (record { 0 = mode_of a })) (λ b. give (side_of q b))) (pan_bytes p) (field_bytes a) p (side_of p a) (reads-pan p)
     (reads-map (address_field (record { 0 = mode_of a })) (λ b. side_of p b) (field_bytes a) a (reads-address a h))
 
 -- what is written of the addressing fields
-abbrev pub written_fields : Bool → PanField → AddressField → PanField → AddressField → List ℕ
+abbrev pub written_fields : Bool → Option Pan → Option Address → Option Pan → Option Address → List ℕ
 written_fields c dp da sp sa = le16_bytes (pan_or dp) ++ (field_bytes da ++ choose c (field_bytes sa) (le16_bytes (pan_or sp) ++ field_bytes sa))
 
 -- it is what the reader looks for
-written_is : (c : Bool) (dp : PanField) (da : AddressField) (sp : PanField) (sa : AddressField) → bit_of (has_pan dp) + bit_of (has_pan sp) ≡ choose c 1 2 → (has_pan dp ≡ false → pan_or sp ≡ 0) → (has_pan dp ≡ false → field_bytes da ≡ []) → (pan_bytes dp ++ field_bytes da) ++ (pan_bytes sp ++ field_bytes sa) ≡ written_fields c dp da sp sa
-written_is true (PanField.Some x) da PanField.None sa n z d = append_assoc (le16_bytes x.0) (field_bytes da) (field_bytes sa)
-written_is false (PanField.Some x) da (PanField.Some y) sa n z d = append_assoc (le16_bytes x.0) (field_bytes da) (le16_bytes y.0 ++ field_bytes sa)
-written_is true PanField.None da (PanField.Some y) sa n z d = rw (z refl, d refl)
-written_is true PanField.None da PanField.None sa n z d = absurd (omega arith)
-written_is false PanField.None da PanField.None sa n z d = absurd (omega arith)
-written_is true (PanField.Some x) da (PanField.Some y) sa n z d = absurd (omega arith)
-written_is false (PanField.Some x) da PanField.None sa n z d = absurd (omega arith)
-written_is false PanField.None da (PanField.Some y) sa n z d = absurd (omega arith)
+written_is : (c : Bool) (dp : Option Pan) (da : Option Address) (sp : Option Pan) (sa : Option Address) → bit_of (has_pan dp) + bit_of (has_pan sp) ≡ choose c 1 2 → (has_pan dp ≡ false → pan_or sp ≡ 0) → (has_pan dp ≡ false → field_bytes da ≡ []) → (pan_bytes dp ++ field_bytes da) ++ (pan_bytes sp ++ field_bytes sa) ≡ written_fields c dp da sp sa
+written_is true (Some x) da None sa n z d = append_assoc (le16_bytes x.0) (field_bytes da) (field_bytes sa)
+written_is false (Some x) da (Some y) sa n z d = append_assoc (le16_bytes x.0) (field_bytes da) (le16_bytes y.0 ++ field_bytes sa)
+written_is true None da (Some y) sa n z d = rw (z refl, d refl)
+written_is true None da None sa n z d = absurd (omega arith)
+written_is false None da None sa n z d = absurd (omega arith)
+written_is true (Some x) da (Some y) sa n z d = absurd (omega arith)
+written_is false (Some x) da None sa n z d = absurd (omega arith)
+written_is false None da (Some y) sa n z d = absurd (omega arith)
 
-reads-fields : (c : Bool) (dp : PanField) (da : AddressField) (sp : PanField) (sa : AddressField) → has_address da ≡ true → has_address sa ≡ true → bit_of (has_pan dp) + bit_of (has_pan sp) ≡ choose c 1 2 → (has_pan dp ≡ false → pan_or sp ≡ 0) → (has_pan dp ≡ false → field_bytes da ≡ []) → Reads (sides (pans (has_pan dp) (has_pan sp)) (record { 0 = mode_of da }) (record { 0 = mode_of sa })) (written_fields c dp da sp sa) (sides_of (side_of dp da) (side_of sp sa))
+reads-fields : (c : Bool) (dp : Option Pan) (da : Option Address) (sp : Option Pan) (sa : Option Address) → has_address da ≡ true → has_address sa ≡ true → bit_of (has_pan dp) + bit_of (has_pan sp) ≡ choose c 1 2 → (has_pan dp ≡ false → pan_or sp ≡ 0) → (has_pan dp ≡ false → field_bytes da ≡ []) → Reads (sides (pans (has_pan dp) (has_pan sp)) (record { 0 = mode_of da }) (record { 0 = mode_of sa })) (written_fields c dp da sp sa) (sides_of (side_of dp da) (side_of sp sa))
 unfolding sides
 reads-fields c dp da sp sa hd hs n z d =
     let src = side (has_pan sp) (record { 0 = mode_of sa }) in
@@ -193,14 +192,14 @@ only-source : (k : Control) → carried k ≡ pans false true → k.dst_addr_mod
 unfolding carried carried2 carried01
 only-source k h = eqb-true k.dst_addr_mode.0 0 (only-source-go (eqb k.frame_version.0 2) (eqb k.dst_addr_mode.0 0) (eqb k.src_addr_mode.0 0) (eqb k.dst_addr_mode.0 3) (eqb k.src_addr_mode.0 3) k.pan_id_compression h)
 
-no_bytes : (a : AddressField) → mode_of a ≡ 0 → field_bytes a ≡ []
-no_bytes AddressField.None h = refl
-no_bytes (AddressField.Some Absent) h = refl
-no_bytes (AddressField.Some (Short x)) h = absurd (omega arith)
-no_bytes (AddressField.Some (Extended x)) h = absurd (omega arith)
+no_bytes : (a : Option Address) → mode_of a ≡ 0 → field_bytes a ≡ []
+no_bytes None h = refl
+no_bytes (Some Absent) h = refl
+no_bytes (Some (Short x)) h = absurd (omega arith)
+no_bytes (Some (Extended x)) h = absurd (omega arith)
 
 -- ---- the domain, test by test
-pub record PansStand (c : Bool) (p : Carried) (d s : PanField) : Type 0 where
+pub record PansStand (c : Bool) (p : Carried) (d s : Option Pan) : Type 0 where
   pub are-carried : p ≡ pans (has_pan d) (has_pan s)
   pub are-counted : bit_of (has_pan d) + bit_of (has_pan s) ≡ choose c 1 2
   pub source-zero : has_pan d ≡ false → pan_or s ≡ 0
@@ -222,7 +221,7 @@ zero_of : (t : Bool) (n : ℕ) → choose t true (eqb n 0) ≡ true → t ≡ fa
 zero_of true n e f = absurd (omega (arith, ap bit_of f))
 zero_of false n e f = eqb-true n 0 e
 
-pans-of : (c : Bool) (p : Carried) (d s : PanField) → pans_stand c p d s ≡ true → PansStand c p d s
+pans-of : (c : Bool) (p : Carried) (d s : Option Pan) → pans_stand c p d s ≡ true → PansStand c p d s
 unfolding pans_stand
 pans-of c p d s e =
     let x = and-true (same (has_pan d) p.dst) _ e in
@@ -288,10 +287,10 @@ abbrev pub after_sequence : Repr → List ℕ
 after_sequence h = written_fields h.pan_id_compression h.dst_pan_id h.dst_addr h.src_pan_id h.src_addr
 
 -- the sequence number's byte, unless it is left out
-abbrev pub sequence_bytes : Bool → ByteField → List ℕ
+abbrev pub sequence_bytes : Bool → Option ℕ → List ℕ
 sequence_bytes t q = choose t [] (byte_bytes (sequence_or q))
 
-bytes-go : (t : Bool) (w p r : List ℕ) (q : ByteField) → w ++ (sequence_bytes t q ++ (p ++ r)) ≡ (w ++ choose t p (byte_bytes (sequence_or q) ++ p)) ++ r
+bytes-go : (t : Bool) (w p r : List ℕ) (q : Option ℕ) → w ++ (sequence_bytes t q ++ (p ++ r)) ≡ (w ++ choose t p (byte_bytes (sequence_or q) ++ p)) ++ r
 bytes-go true w p r q = sym (append_assoc w p r)
 bytes-go false w p r q = let b = byte_bytes (sequence_or q) in ap (λ z. w ++ z) (sym (append_assoc b p r)) ∙ sym (append_assoc w (b ++ p) r)
 
@@ -324,14 +323,14 @@ reads-addressing h d =
     let absent : has_pan h.dst_pan_id ≡ false → field_bytes h.dst_addr ≡ [] = λ z. no_bytes h.dst_addr (only-source (control_for h) (rw (z, source-alone h.pan_id_compression (has_pan h.dst_pan_id) (has_pan h.src_pan_id) s.are-counted z) at s.are-carried)) in
     rw (d.is-addressed, s.are-carried) (reads-fields h.pan_id_compression h.dst_pan_id h.dst_addr h.src_pan_id h.src_addr d.dst d.src s.are-counted s.source-zero absent)
 
-sequence-go : (k : Control) (t : Bool) (f : ByteField) → has_sequence k ≡ true → choose t true (has_byte f) ≡ true → (t ≡ true → has_byte f ≡ false) → choose t ByteField.None (sequence_of k (sequence_or f)) ≡ f
+sequence-go : (k : Control) (t : Bool) (f : Option ℕ) → has_sequence k ≡ true → choose t true (has_byte f) ≡ true → (t ≡ true → has_byte f ≡ false) → choose t None (sequence_of k (sequence_or f)) ≡ f
 unfolding sequence_of
-sequence-go k true ByteField.None e h n = refl
-sequence-go k true (ByteField.Some x) e h n = absurd (omega (arith, ap bit_of (n refl)))
-sequence-go k false ByteField.None e h n = absurd (omega (arith, ap bit_of h))
-sequence-go k false (ByteField.Some x) e h n = rw e
+sequence-go k true None e h n = refl
+sequence-go k true (Some x) e h n = absurd (omega (arith, ap bit_of (n refl)))
+sequence-go k false None e h n = absurd (omega (arith, ap bit_of h))
+sequence-go k false (Some x) e h n = rw e
 
-sequence-back : (h : Repr) → Domain h → choose (suppresses h) ByteField.None (sequence_of (control_for h) (sequence_or h.sequence_number)) ≡ h.sequence_number
+sequence-back : (h : Repr) → Domain h → choose (suppresses h) None (sequence_of (control_for h) (sequence_or h.sequence_number)) ≡ h.sequence_number
 sequence-back h d = sequence-go (control_for h) (suppresses h) h.sequence_number (addressed-sequence (control_for h) d.is-addressed) d.sequence (suppresses-none h)
 
 -- the fields that were read make the header
@@ -353,7 +352,7 @@ reads-rest h d =
     subst (λ x. Reads (header_rest k q) (after_sequence h) x) (header-back h)
     (rest-go (addressing k) (repr_of k q) (after_sequence h) (fields_of h) (supported k) h.security_enabled d.is-supported d.unsecured (reads-addressing h d))
 
-after-go : (h : Repr) → Domain h → (t : Bool) → choose t ByteField.None (sequence_of (control_for h) (sequence_or h.sequence_number)) ≡ h.sequence_number → Reads (branch t (header_rest (control_for h) ByteField.None) (◌>>=◌ byte (λ b. header_rest (control_for h) (sequence_of (control_for h) b)))) (sequence_bytes t h.sequence_number ++ after_sequence h) h
+after-go : (h : Repr) → Domain h → (t : Bool) → choose t None (sequence_of (control_for h) (sequence_or h.sequence_number)) ≡ h.sequence_number → Reads (branch t (header_rest (control_for h) None) (◌>>=◌ byte (λ b. header_rest (control_for h) (sequence_of (control_for h) b)))) (sequence_bytes t h.sequence_number ++ after_sequence h) h
 after-go h d true e = subst (λ z. Reads (header_rest (control_for h) z) (after_sequence h) h) (sym e) (reads-rest h d)
 after-go h d false e =
     let k = control_for h in
@@ -363,7 +362,7 @@ after-go h d false e =
 reads-after : (h : Repr) → Domain h → Reads (after_control (control_for h)) (sequence_bytes (suppresses h) h.sequence_number ++ after_sequence h) h
 reads-after h d =
     let k = control_for h in
-    let m = header_rest k ByteField.None in
+    let m = header_rest k None in
     let f = ◌>>=◌ byte (λ b. header_rest k (sequence_of k b)) in
     let bs = sequence_bytes (suppresses h) h.sequence_number ++ after_sequence h in
     let r : Reads (branch (omits_sequence k) m f) bs h = subst (λ t. Reads (branch t m f) bs h) (sym (omits-is h)) (after-go h d (suppresses h) (sequence-back h d)) in

@@ -1,4 +1,5 @@
 -- The steps of the writers, for `search`; and the length of what each writes.
+use Rattle.std.specs.Prelude.{Option, Some, None}
 use Prim.Native.Nat.{ℕ, ◌+◌, ◌≤◌}
 use native.Mathlib.Nat.{zero-add}
 use native.Mathlib.Omega.{arith}
@@ -15,7 +16,6 @@ use Rattle.ieee802154.specs.Control.{word_of}
 use Rattle.ieee802154.specs.Mac.{sequence_or, suppresses, control_with, control_for, front_length, length_of, front_bytes, source_bytes, back_bytes, bytes_of}
 use Rattle.ieee802154.specs.declared.addr.Address.{Address}
 use Rattle.ieee802154.specs.declared.addr.Address.TheVariants.{Absent, Short, Extended}
-use Rattle.ieee802154.specs.declared.addr.AddressField.{AddressField}
 use Rattle.ieee802154.specs.declared.control.Control.{Control}
 use Rattle.ieee802154.specs.declared.header.Repr.{Repr}
 
@@ -26,14 +26,14 @@ length-address Absent = refl
 length-address (Short x) = refl
 length-address (Extended x) = refl
 
-pub length-field : (a : AddressField) → length (field_bytes a) ≡ field_length a
+pub length-field : (a : Option Address) → length (field_bytes a) ≡ field_length a
 unfolding le64_bytes le32_bytes le16_bytes
-length-field AddressField.None = refl
-length-field (AddressField.Some Absent) = refl
-length-field (AddressField.Some (Short x)) = refl
-length-field (AddressField.Some (Extended x)) = refl
+length-field None = refl
+length-field (Some Absent) = refl
+length-field (Some (Short x)) = refl
+length-field (Some (Extended x)) = refl
 
-pub more-field : (l m n : List ℕ) (at k : ℕ) (a : AddressField) (bs : List ℕ) → k ≡ field_length a → m ≡ put at (field_bytes a) l → n ≡ put (at + k) bs m → n ≡ put at (field_bytes a ++ bs) l
+pub more-field : (l m n : List ℕ) (at k : ℕ) (a : Option Address) (bs : List ℕ) → k ≡ field_length a → m ≡ put at (field_bytes a) l → n ≡ put (at + k) bs m → n ≡ put at (field_bytes a ++ bs) l
 more-field l m n at k a bs h p q = more l m n at k (field_bytes a) bs (length-field a ∙ sym h) p q
 
 -- ---- the header
@@ -68,7 +68,7 @@ control-told h t d s r p q =
 pub word-told : {w : ℕ} {k : Control} (h : Repr) → w ≡ word_of k → k ≡ control_for h → w ≡ word_of (control_for h)
 word-told h p q = p ∙ ap word_of q
 
-length-source : (t : Bool) (n : ℕ) (a : AddressField) → length (choose t (field_bytes a) (le16_bytes n ++ field_bytes a)) ≡ choose t 0 2 + field_length a
+length-source : (t : Bool) (n : ℕ) (a : Option Address) → length (choose t (field_bytes a) (le16_bytes n ++ field_bytes a)) ≡ choose t 0 2 + field_length a
 unfolding le16_bytes
 length-source true n a = omega (arith, length-field a)
 length-source false n a = omega (arith, length-field a)
@@ -88,11 +88,11 @@ unfolding le16_bytes
 length-le16 x = refl
 
 -- ---- no header is longer than 23 bytes: a sequence number, two extended addresses, uncompressed
-field-most : (a : AddressField) → field_length a ≤ 8
-field-most AddressField.None = omega arith
-field-most (AddressField.Some Absent) = omega arith
-field-most (AddressField.Some (Short x)) = omega arith
-field-most (AddressField.Some (Extended x)) = omega arith
+field-most : (a : Option Address) → field_length a ≤ 8
+field-most None = omega arith
+field-most (Some Absent) = omega arith
+field-most (Some (Short x)) = omega arith
+field-most (Some (Extended x)) = omega arith
 
 pub length_most : (h : Repr) → length_of h ≤ 23
 unfolding length_of

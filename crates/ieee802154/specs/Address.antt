@@ -1,29 +1,11 @@
 -- Addresses (IEEE 802.15.4, 7.2.2.9: absent, short of 16 bits, extended of 64 bits) and what is made of them.
-use Rattle.std.specs.Prelude.{ℕ, ◌+◌, ◌-◌, ◌/◌, ◌%◌, ◌^◌, List, [], Bool, true, false, length, eqb}
-use Rattle.std.proofs.Math.Option.{Option, none, some}
+use Rattle.std.specs.Prelude.{ℕ, ◌+◌, ◌-◌, ◌/◌, ◌%◌, ◌^◌, List, [], Bool, true, false, length, eqb, Option, Some, None}
 use Rattle.octets.specs.Read.{Answer, is, refused, and_then, choose, be16, be64}
 use Rattle.octets.specs.Write.{be16_bytes, be64_bytes}
-use Rattle.octets.specs.Refusal.{number_of}
 use Rattle.octets.specs.Ipv6.{ip, link_local}
 use Rattle.octets.specs.declared.ipv6.Ipv6Addr.{Ipv6Addr}
 use Rattle.ieee802154.specs.declared.addr.Address.{Address}
 use Rattle.ieee802154.specs.declared.addr.Address.TheVariants.{Absent, Short, Extended}
-use Rattle.ieee802154.specs.declared.addr.AddressAnswer.{AddressAnswer}
-use Rattle.ieee802154.specs.declared.addr.Eui64.{Eui64}
-use Rattle.ieee802154.specs.declared.addr.LinkLocal.{LinkLocal}
-
--- ---- the answers' cases
-abbrev pub of_address : AddressAnswer → Answer Address
-of_address (AddressAnswer.Is a) = is a
-of_address (AddressAnswer.Refused e) = refused (number_of e)
-
-abbrev pub of_eui : Eui64 → Option ℕ
-of_eui Eui64.None = none
-of_eui (Eui64.Some x) = some x
-
-abbrev pub of_link_local : LinkLocal → Option Ipv6Addr
-of_link_local LinkLocal.None = none
-of_link_local (LinkLocal.Some a) = some a
 
 -- the broadcast address is the short address ffff
 abbrev pub is_broadcast : Address → Bool
@@ -59,14 +41,14 @@ abbrev pub flip57 : ℕ → ℕ
 flip57 x = choose (eqb (x / 2 ^ 57 % 2) 0) (x + 2 ^ 57) (x - 2 ^ 57)
 
 abbrev pub eui64 : Address → Option ℕ
-eui64 Absent = none
-eui64 (Short a) = none
-eui64 (Extended x) = some (flip57 x)
+eui64 Absent = None
+eui64 (Short a) = None
+eui64 (Extended x) = Some (flip57 x)
 
 -- RFC 4944, 7 (6 gives the identifier): fe80::/64, and the interface identifier
 abbrev pub under_link_local : Option ℕ → Option Ipv6Addr
-under_link_local none = none
-under_link_local (some i) = some (ip link_local i)
+under_link_local None = None
+under_link_local (Some i) = Some (ip link_local i)
 
 abbrev pub link_local_of : Address → Option Ipv6Addr
 link_local_of a = under_link_local (eui64 a)

@@ -1,33 +1,21 @@
 -- MAC headers (IEEE 802.15.4, 7.2): frame control, sequence number, addressing fields, auxiliary security header. Where the scope document
 -- decides, it is named.
-use Rattle.std.specs.Prelude.{ℕ, ◌+◌, Bool, true, false, List, ◌++◌, length, ltb}
-use Rattle.octets.specs.Read.{refused, Read, Reader, got, choose, branch, give, refuse, byte, le16, ◌>>=◌}
+use Rattle.std.specs.Prelude.{ℕ, ◌+◌, Bool, true, false, List, ◌++◌, length, ltb, Option, Some, None}
+use Rattle.octets.specs.Read.{refused, Read, Reader, choose, branch, give, refuse, byte, le16, ◌>>=◌}
 use Rattle.octets.specs.Write.{byte_bytes, le16_bytes}
-use Rattle.octets.specs.Refusal.{number_of}
-use Rattle.octets.specs.declared.field.ByteField.{ByteField}
 use Rattle.ieee802154.specs.Control.{control_of, word_of, supported, has_sequence, may_omit, omits_sequence}
 use Rattle.ieee802154.specs.Addressing.{addressing, pan_or, mode_of, field_length, field_bytes}
 use Rattle.ieee802154.specs.Security.{auxiliary}
 use Rattle.ieee802154.specs.declared.control.Control.{Control}
 use Rattle.ieee802154.specs.declared.addressing.Addressing.{Addressing}
 use Rattle.ieee802154.specs.declared.header.Repr.{Repr}
-use Rattle.ieee802154.specs.declared.header.Parsed.{Parsed}
-use Rattle.ieee802154.specs.declared.header.SequenceRead.{SequenceRead}
-
-abbrev pub of_parsed : Parsed → Read Repr
-of_parsed (Parsed.Header h c) = got h c.at
-of_parsed (Parsed.Refused e) = refused (number_of e)
-
-abbrev pub of_sequence : SequenceRead → Read ByteField
-of_sequence (SequenceRead.Field q c) = got q c.at
-of_sequence (SequenceRead.Refused e) = refused (number_of e)
 
 -- ---- reading
 -- the byte is passed over in every frame that does not leave it out, and is the sequence number of some types
-unfoldable pub sequence_of : Control → ℕ → ByteField
-sequence_of k q = choose (has_sequence k) (ByteField.Some q) ByteField.None
+unfoldable pub sequence_of : Control → ℕ → Option ℕ
+sequence_of k q = choose (has_sequence k) (Some q) None
 
-unfoldable pub repr_of : Control → ByteField → Addressing → Repr
+unfoldable pub repr_of : Control → Option ℕ → Addressing → Repr
 repr_of k q a =
     record {
       frame_type = k.frame_type;
@@ -43,7 +31,7 @@ repr_of k q a =
       src_addr = a.src.addr;
     }
 
-unfoldable pub header_rest : Control → ByteField → Reader Repr
+unfoldable pub header_rest : Control → Option ℕ → Reader Repr
 header_rest k q =
     branch (supported k)
     (do
@@ -53,9 +41,9 @@ header_rest k q =
     (refuse 3)
 
 -- the sequence number, unless it is left out
-unfoldable pub sequence : Control → Reader ByteField
+unfoldable pub sequence : Control → Reader (Option ℕ)
 sequence k =
-    branch (omits_sequence k) (give ByteField.None)
+    branch (omits_sequence k) (give None)
     (do
       b ← byte
       give (sequence_of k b))
@@ -75,13 +63,13 @@ unfoldable pub mac : List ℕ → Read Repr
 mac s = choose (ltb (length s) 3) (refused 1) (choose (ltb 127 (length s)) (refused 4) (header s 0))
 
 -- ---- writing: a destination PAN always, a source PAN unless compressed (the scope document), no auxiliary security header
-abbrev pub sequence_or : ByteField → ℕ
-sequence_or ByteField.None = 0
-sequence_or (ByteField.Some x) = x
+abbrev pub sequence_or : Option ℕ → ℕ
+sequence_or None = 0
+sequence_or (Some x) = x
 
-abbrev pub has_byte : ByteField → Bool
-has_byte ByteField.None = false
-has_byte (ByteField.Some x) = true
+abbrev pub has_byte : Option ℕ → Bool
+has_byte None = false
+has_byte (Some x) = true
 
 -- left out where there is none and it may be, by the record's own numbers
 unfoldable pub suppresses : Repr → Bool

@@ -1,23 +1,23 @@
 -- Which headers read back as they were written: a test that computes. It is exact: proofs/RoundTrips.antt shows
 -- that it suffices, proofs/Exact.antt that it is needed.
-use Rattle.std.specs.Prelude.{◌+◌, Bool, true, false, not, ◌&&◌, eqb, ltb}
+use Rattle.ieee802154.specs.declared.addr.Pan.{Pan}
+use Rattle.ieee802154.specs.declared.addr.Address.{Address}
+use Rattle.std.specs.Prelude.{◌+◌, Bool, true, false, not, ◌&&◌, eqb, ltb, Option, Some, None}
 use Rattle.octets.specs.Read.{choose}
 use Rattle.ieee802154.specs.Control.{bit_of, supported, has_addressing, carried}
 use Rattle.ieee802154.specs.Addressing.{pan_or}
 use Rattle.ieee802154.specs.Mac.{has_byte, suppresses, control_for}
-use Rattle.ieee802154.specs.declared.addr.PanField.{PanField}
-use Rattle.ieee802154.specs.declared.addr.AddressField.{AddressField}
 use Rattle.ieee802154.specs.declared.control.Carried.{Carried}
 use Rattle.ieee802154.specs.declared.header.Repr.{Repr}
 
 -- ---- a field is there; an absent address, `Some(Absent)`, is there
-abbrev pub has_pan : PanField → Bool
-has_pan PanField.None = false
-has_pan (PanField.Some x) = true
+abbrev pub has_pan : Option Pan → Bool
+has_pan None = false
+has_pan (Some x) = true
 
-abbrev pub has_address : AddressField → Bool
-has_address AddressField.None = false
-has_address (AddressField.Some a) = true
+abbrev pub has_address : Option Address → Bool
+has_address None = false
+has_address (Some a) = true
 
 abbrev pub same : Bool → Bool → Bool
 same true b = b
@@ -26,7 +26,7 @@ same false b = not b
 -- ---- the PANs stand where the reader looks for them: those that are carried are there; they are as many as are written, one if compressed
 -- and else two; and where the source's alone is carried (versions 0 and 1, no destination), it is the 0 that is written for a missing
 -- destination PAN
-unfoldable pub pans_stand : Bool → Carried → PanField → PanField → Bool
+unfoldable pub pans_stand : Bool → Carried → Option Pan → Option Pan → Bool
 pans_stand c p d s =
     same (has_pan d) p.dst
     && (same (has_pan s) p.src

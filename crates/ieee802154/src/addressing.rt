@@ -1,18 +1,20 @@
 // The addressing fields: each side's PAN identifier and address.
+// Readers take the lent bytes and a reading place, which is handed on by value (a rule of the project).
+ghost use Rattle.octets.specs.Answers.{of_read};
 ghost use Rattle.std.specs.Prelude.{◌≡◌};
-ghost use Rattle.ieee802154.specs.Addressing.{of_pan, of_field, of_side, of_addressing, pan_field, address_field, side};
+ghost use Rattle.ieee802154.specs.Addressing.{pan_field, address_field, side};
 ghost use Rattle.ieee802154.specs.Addressing.{sides, addressing};
 
-use super::addr::{Address, AddressField, Pan, PanField};
+use super::addr::{Address, Pan};
 use super::control::{AddressingMode, Carried, Control};
-use octets::cursor::{Cursor, LongRead, WordRead};
+use octets::cursor::{Cursor, Read};
 use octets::refusal::Refusal;
 
 // One side's PAN identifier and address.
 #[derive(Clone, Copy)]
 pub struct Side {
-    pub pan: PanField,
-    pub addr: AddressField,
+    pub pan: Option<Pan>,
+    pub addr: Option<Address>,
 }
 
 #[derive(Clone, Copy)]
@@ -21,116 +23,81 @@ pub struct Addressing {
     pub src: Side,
 }
 
-#[derive(Clone, Copy)]
-pub enum PanRead {
-    Field(PanField, Cursor),
-    Refused(Refusal),
-}
-
-#[derive(Clone, Copy)]
-pub enum AddressRead {
-    Field(AddressField, Cursor),
-    Refused(Refusal),
-}
-
-#[derive(Clone, Copy)]
-pub enum SideRead {
-    Field(Side, Cursor),
-    Refused(Refusal),
-}
-
-#[derive(Clone, Copy)]
-pub enum AddressingRead {
-    Field(Addressing, Cursor),
-    Refused(Refusal),
-}
-
-fn read_pan(buf: &[u8], c: Cursor, carried: bool) -> PanRead
-    ensures { of_pan result ≡ pan_field carried buf.now c.at }
+#[tactic(auto, unfolding(crate::specs::Addressing::pan_field, crate::specs::Control::carried))]
+fn read_pan(buf: &[u8], c: Cursor, carried: bool) -> Read<Option<Pan>>
+    ensures { of_read result ≡ pan_field carried buf.now c.at }
 {
     if carried {
-        match c.le16(buf) {
-            WordRead::Field(x, d) => PanRead::Field(PanField::Some(Pan(x)), d),
-            WordRead::Refused(e) => PanRead::Refused(e),
-        }
+        let (x, d) = c.le16(buf)?;
+        Ok((Some(Pan(x)), d))
     } else {
-        PanRead::Field(PanField::None, c)
+        Ok((None, c))
     }
 }
 
-fn read_address(buf: &[u8], c: Cursor, mode: AddressingMode) -> AddressRead
-    ensures { of_field result ≡ address_field mode buf.now c.at }
+// By comparison and no `match`: a mode is a one-number type with named constants (a rule of the project).
+#[tactic(auto, unfolding(crate::specs::Addressing::address_field))]
+fn read_address(buf: &[u8], c: Cursor, mode: AddressingMode) -> Read<Option<Address>>
+    ensures { of_read result ≡ address_field mode buf.now c.at }
 {
-    if mode.0 == AddressingMode::ABSENT.0 {
-        return AddressRead::Field(AddressField::Some(Address::Absent), c);
+    if mode == AddressingMode::ABSENT {
+        return Ok((Some(Address::Absent), c));
     }
-    if mode.0 == AddressingMode::SHORT.0 {
-        return match c.le16(buf) {
-            WordRead::Field(x, d) => AddressRead::Field(AddressField::Some(Address::Short(x)), d),
-            WordRead::Refused(e) => AddressRead::Refused(e),
-        };
+    if mode == AddressingMode::SHORT {
+        let (x, d) = c.le16(buf)?;
+        return Ok((Some(Address::Short(x)), d));
     }
-    if mode.0 == AddressingMode::EXTENDED.0 {
-        return match c.le64(buf) {
-            LongRead::Field(x, d) => AddressRead::Field(
-                AddressField::Some(Address::Extended(x)),
-                d,
-            ),
-            LongRead::Refused(e) => AddressRead::Refused(e),
-        };
+    if mode == AddressingMode::EXTENDED {
+        let (x, d) = c.le64(buf)?;
+        return Ok((Some(Address::Extended(x)), d));
     }
-    AddressRead::Refused(Refusal::Unsupported)
+    Err(Refusal::Unsupported)
 }
 
-fn read_side(buf: &[u8], c: Cursor, carried: bool, mode: AddressingMode) -> SideRead
-    ensures { of_side result ≡ side carried mode buf.now c.at }
+#[tactic(auto, unfolding(crate::specs::Addressing::side, crate::specs::Control::carried))]
+fn read_side(buf: &[u8], c: Cursor, carried: bool, mode: AddressingMode) -> Read<Side>
+    ensures { of_read result ≡ side carried mode buf.now c.at }
 {
-    match read_pan(buf, c, carried) {
-        PanRead::Field(pan, d) => match read_address(buf, d, mode) {
-            AddressRead::Field(addr, e) => SideRead::Field(Side { pan, addr }, e),
-            AddressRead::Refused(e) => SideRead::Refused(e),
-        },
-        PanRead::Refused(e) => SideRead::Refused(e),
-    }
+    let (pan, d) = read_pan(buf, c, carried)?;
+    let (addr, e) = read_address(buf, d, mode)?;
+    Ok((Side { pan, addr }, e))
 }
 
+#[tactic(auto, unfolding(crate::specs::Addressing::sides, crate::specs::Control::carried))]
 fn read_sides(
     buf: &[u8],
     c: Cursor,
     carried: Carried,
     dst: AddressingMode,
     src: AddressingMode,
-) -> AddressingRead
-    ensures { of_addressing result ≡ sides carried dst src buf.now c.at }
+) -> Read<Addressing>
+    ensures { of_read result ≡ sides carried dst src buf.now c.at }
 {
-    match read_side(buf, c, carried.dst, dst) {
-        SideRead::Field(a, d) => match read_side(buf, d, carried.src, src) {
-            SideRead::Field(b, e) => AddressingRead::Field(Addressing { dst: a, src: b }, e),
-            SideRead::Refused(e) => AddressingRead::Refused(e),
-        },
-        SideRead::Refused(e) => AddressingRead::Refused(e),
-    }
+    let (a, d) = read_side(buf, c, carried.dst, dst)?;
+    let (b, e) = read_side(buf, d, carried.src, src)?;
+    Ok((Addressing { dst: a, src: b }, e))
 }
 
 // The fields that the frame control field says are there; none where the frame type has no addressing.
-pub(crate) fn read_addressing(buf: &[u8], c: Cursor, k: Control) -> AddressingRead
-    ensures { of_addressing result ≡ addressing k buf.now c.at }
+#[tactic(auto, unfolding(crate::specs::Addressing::addressing))]
+pub(crate) fn read_addressing(buf: &[u8], c: Cursor, k: Control) -> Read<Addressing>
+    ensures { of_read result ≡ addressing k buf.now c.at }
 {
     if k.has_addressing() {
         let dst = k.dst_addr_mode;
         let src = k.src_addr_mode;
-        read_sides(buf, c, Carried::of(k), dst, src)
+        read_sides(buf, c, Carried::from(k), dst, src)
     } else {
         let none = Side {
-            pan: PanField::None,
-            addr: AddressField::None,
+            pan: None,
+            addr: None,
         };
-        AddressingRead::Field(
+        Ok((
             Addressing {
                 dst: none,
                 src: none,
             },
             c,
-        )
+        ))
     }
 }

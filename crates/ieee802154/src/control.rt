@@ -4,6 +4,8 @@ ghost use Rattle.ieee802154.specs.Control.{control_of, word_of, bit_of, supporte
 ghost use Rattle.ieee802154.specs.Control.{has_sequence, may_omit, omits_sequence, has_addressing, carried01};
 ghost use Rattle.ieee802154.specs.Control.{carried2, carried};
 
+use octets::cursor::at_or;
+
 // The frame control field (IEEE 802.15.4, 7.2.2): where each of its parts begins, as the weight of the part's lowest
 // bit. The frame type is the lowest three bits. Bit 7 is reserved, and bit 9 says whether information elements follow.
 const SECURITY_ENABLED: u16 = 0x0008;
@@ -35,7 +37,7 @@ const MODES: u16 = 4;
 const VERSIONS: u16 = 4;
 
 // The frame type: every number of its three bits, named or not.
-#[derive(Clone, Copy)]
+#[derive(Clone, Copy, PartialEq, Eq)]
 pub struct FrameType(pub u8);
 
 impl FrameType {
@@ -58,12 +60,12 @@ impl FrameType {
     pub fn is_data(self) -> bool
         ensures { result ≡ eqb self.0 1 }
     {
-        self.0 == FrameType::DATA.0
+        self == FrameType::DATA
     }
 }
 
 // How an address is given: every number of its two bits, named or not.
-#[derive(Clone, Copy)]
+#[derive(Clone, Copy, PartialEq, Eq)]
 pub struct AddressingMode(pub u8);
 
 impl AddressingMode {
@@ -77,7 +79,7 @@ impl AddressingMode {
 }
 
 // The version of the standard: every number of its two bits, named or not.
-#[derive(Clone, Copy)]
+#[derive(Clone, Copy, PartialEq, Eq)]
 pub struct FrameVersion(pub u8);
 
 impl FrameVersion {
@@ -93,17 +95,11 @@ impl FrameVersion {
     pub fn may_omit(self, kind: FrameType) -> bool
         ensures { result ≡ may_omit self.0 kind.0 }
     {
-        self.0 == FrameVersion::IEEE802154.0 && kind.0 < FrameType::RESERVED.0
+        self == FrameVersion::IEEE802154 && kind.0 < FrameType::RESERVED.0
     }
 }
 
-// The frame control field's high byte, 0 where the frame ends before it.
-fn high_byte(frame: &[u8]) -> u8
-    ensures { result ≡ get_or frame.now 1 0 }
-{
-    if 1 < frame.len() { frame[1] } else { 0 }
-}
-
+#[tactic(auto, unfolding(crate::specs::Control::says_elements))]
 fn says_elements(b: u8) -> bool
     ensures { result ≡ says_elements b }
 {
@@ -114,10 +110,11 @@ fn says_elements(b: u8) -> bool
 pub fn has_elements(frame: &[u8]) -> bool
     ensures { result ≡ has_elements frame.now }
 {
-    says_elements(high_byte(frame))
+    says_elements(at_or(frame, 1, 0))
 }
 
 // The frame control field.
+// Each flag is a bit of the field, and what stands beside it holds in either case: none is an Option.
 #[derive(Clone, Copy)]
 pub struct Control {
     pub frame_type: FrameType,
@@ -132,17 +129,18 @@ pub struct Control {
 }
 
 // Which PAN identifiers a frame carries.
+// Two flags, one for each side: no value stands beside either.
 #[derive(Clone, Copy)]
 pub struct Carried {
     pub dst: bool,
     pub src: bool,
 }
 
-impl Control {
-    // The parts of the field.
-    pub fn of(fc: u16) -> Control
-        ensures { result ≡ control_of fc }
-    {
+// The parts of the field.
+impl From<u16> for Control {
+    ghost from_gives = { λ fc k. k ≡ control_of fc };
+
+    fn from(fc: u16) -> Control {
         Control {
             frame_type: FrameType((fc % TYPES) as u8),
             security_enabled: fc / SECURITY_ENABLED % 2 == 1,
@@ -155,60 +153,68 @@ impl Control {
             src_addr_mode: AddressingMode((fc / SRC_ADDR_MODE % MODES) as u8),
         }
     }
+}
 
-    // The field as a number; each part keeps to its bits.
-    pub fn word(self) -> u16
-        ensures { result ≡ word_of self }
-    {
-        let low = (self.frame_type.0 as u16) % TYPES
-            + bit_of(self.security_enabled) * SECURITY_ENABLED
-            + bit_of(self.frame_pending) * FRAME_PENDING
-            + bit_of(self.ack_request) * ACK_REQUEST
-            + bit_of(self.pan_id_compression) * PAN_ID_COMPRESSION
-            + bit_of(self.sequence_suppressed) * SEQUENCE_SUPPRESSED;
-        let dst = (self.dst_addr_mode.0 as u16) % MODES;
-        let version = (self.frame_version.0 as u16) % VERSIONS;
-        let src = (self.src_addr_mode.0 as u16) % MODES;
+// The field as a number; each part keeps to its bits.
+impl From<Control> for u16 {
+    ghost from_gives = { λ k fc. fc ≡ word_of k };
+
+    #[tactic(auto, unfolding(crate::specs::Control::word_of))]
+    fn from(k: Control) -> u16 {
+        let low = (k.frame_type.0 as u16) % TYPES
+            + bit_of(k.security_enabled) * SECURITY_ENABLED
+            + bit_of(k.frame_pending) * FRAME_PENDING
+            + bit_of(k.ack_request) * ACK_REQUEST
+            + bit_of(k.pan_id_compression) * PAN_ID_COMPRESSION
+            + bit_of(k.sequence_suppressed) * SEQUENCE_SUPPRESSED;
+        let dst = (k.dst_addr_mode.0 as u16) % MODES;
+        let version = (k.frame_version.0 as u16) % VERSIONS;
+        let src = (k.src_addr_mode.0 as u16) % MODES;
         low + dst * DST_ADDR_MODE + version * FRAME_VERSION + src * SRC_ADDR_MODE
     }
+}
 
+impl Control {
     // Whether the version and the modes are read here.
+    #[tactic(auto, unfolding(crate::specs::Control::supported))]
     pub fn supported(self) -> bool
         ensures { result ≡ supported self }
     {
-        if self.frame_version.0 == FrameVersion::RESERVED.0 {
+        if self.frame_version == FrameVersion::RESERVED {
             return false;
         }
-        if self.dst_addr_mode.0 == AddressingMode::RESERVED.0 {
+        if self.dst_addr_mode == AddressingMode::RESERVED {
             return false;
         }
-        if self.src_addr_mode.0 == AddressingMode::RESERVED.0 {
+        if self.src_addr_mode == AddressingMode::RESERVED {
             return false;
         }
-        if self.frame_version.0 == FrameVersion::IEEE802154.0 {
+        if self.frame_version == FrameVersion::IEEE802154 {
             return true;
         }
-        if self.dst_addr_mode.0 != AddressingMode::ABSENT.0 {
+        if self.dst_addr_mode != AddressingMode::ABSENT {
             return true;
         }
-        if self.src_addr_mode.0 != AddressingMode::ABSENT.0 {
+        if self.src_addr_mode != AddressingMode::ABSENT {
             return true;
         }
         !self.pan_id_compression
     }
 
     // Whether the frame type has a sequence number.
+    #[tactic(auto, unfolding(crate::specs::Control::has_sequence))]
     pub fn has_sequence(self) -> bool
         ensures { result ≡ has_sequence self }
     {
-        let t = self.frame_type.0;
-        if t == FrameType::RESERVED.0 {
+        let t = self.frame_type;
+        if t == FrameType::RESERVED {
             return false;
         }
-        t < FrameType::FRAGMENT_OR_FRAK.0
+        t.0 < FrameType::FRAGMENT_OR_FRAK.0
     }
 
     // Whether the sequence number is left out.
+    #[tactic(auto, unfolding(crate::specs::Control::omits_sequence))]
     pub fn omits_sequence(self) -> bool
         ensures { result ≡ omits_sequence self }
     {
@@ -221,17 +227,18 @@ impl Control {
     }
 
     // Whether the frame type has addressing fields.
+    #[tactic(auto, unfolding(crate::specs::Control::has_addressing))]
     pub fn has_addressing(self) -> bool
         ensures { result ≡ has_addressing self }
     {
-        let t = self.frame_type.0;
-        if t == FrameType::ACKNOWLEDGEMENT.0 {
-            return self.frame_version.0 == FrameVersion::IEEE802154.0;
+        let t = self.frame_type;
+        if t == FrameType::ACKNOWLEDGEMENT {
+            return self.frame_version == FrameVersion::IEEE802154;
         }
-        if t == FrameType::RESERVED.0 {
+        if t == FrameType::RESERVED {
             return false;
         }
-        t < FrameType::FRAGMENT_OR_FRAK.0
+        t.0 < FrameType::FRAGMENT_OR_FRAK.0
     }
 }
 
@@ -245,16 +252,17 @@ fn bit_of(t: bool) -> u16
 impl Carried {
     // Versions 0 and 1: a present address brings its PAN, but the source's is left out where both are present and
     // compression is set.
+    #[tactic(auto, unfolding(crate::specs::Control::carried01))]
     fn old(dst: AddressingMode, src: AddressingMode, compression: bool) -> Carried
         ensures { result ≡ carried01 dst src compression }
     {
-        if dst.0 == AddressingMode::ABSENT.0 {
+        if dst == AddressingMode::ABSENT {
             return Carried {
                 dst: false,
-                src: src.0 != AddressingMode::ABSENT.0,
+                src: src != AddressingMode::ABSENT,
             };
         }
-        if src.0 == AddressingMode::ABSENT.0 {
+        if src == AddressingMode::ABSENT {
             return Carried {
                 dst: true,
                 src: false,
@@ -267,11 +275,12 @@ impl Carried {
     }
 
     // Version 2.
+    #[tactic(auto, unfolding(crate::specs::Control::carried2))]
     fn new(dst: AddressingMode, src: AddressingMode, compression: bool) -> Carried
         ensures { result ≡ carried2 dst src compression }
     {
-        if dst.0 == AddressingMode::ABSENT.0 {
-            if src.0 == AddressingMode::ABSENT.0 {
+        if dst == AddressingMode::ABSENT {
+            if src == AddressingMode::ABSENT {
                 return Carried {
                     dst: compression,
                     src: false,
@@ -282,19 +291,19 @@ impl Carried {
                 src: !compression,
             };
         }
-        if src.0 == AddressingMode::ABSENT.0 {
+        if src == AddressingMode::ABSENT {
             return Carried {
                 dst: !compression,
                 src: false,
             };
         }
-        if dst.0 != AddressingMode::EXTENDED.0 {
+        if dst != AddressingMode::EXTENDED {
             return Carried {
                 dst: true,
                 src: !compression,
             };
         }
-        if src.0 != AddressingMode::EXTENDED.0 {
+        if src != AddressingMode::EXTENDED {
             return Carried {
                 dst: true,
                 src: !compression,
@@ -305,13 +314,16 @@ impl Carried {
             src: false,
         }
     }
+}
 
-    pub fn of(k: Control) -> Carried
-        ensures { result ≡ carried k }
-    {
+impl From<Control> for Carried {
+    ghost from_gives = { λ k c. c ≡ carried k };
+
+    #[tactic(auto, unfolding(crate::specs::Control::carried))]
+    fn from(k: Control) -> Carried {
         let dst = k.dst_addr_mode;
         let src = k.src_addr_mode;
-        if k.frame_version.0 == FrameVersion::IEEE802154.0 {
+        if k.frame_version == FrameVersion::IEEE802154 {
             Carried::new(dst, src, k.pan_id_compression)
         } else {
             Carried::old(dst, src, k.pan_id_compression)

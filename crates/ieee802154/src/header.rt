@@ -1,18 +1,19 @@
 // MAC headers, read and written.
+// Readers take the lent bytes and a reading place, which is handed on by value (a rule of the project).
+ghost use Rattle.octets.specs.Answers.{of_read};
 ghost use Rattle.std.specs.Prelude.{◌≡◌};
 ghost use Rattle.octets.specs.Write.{put, Emits};
-ghost use Rattle.ieee802154.specs.Mac.{of_parsed, of_sequence, sequence, sequence_of, sequence_or, suppresses};
+ghost use Rattle.ieee802154.specs.Mac.{sequence, sequence_of, sequence_or, suppresses};
 ghost use Rattle.ieee802154.specs.Mac.{repr_of, control_for, header_rest, after_control, header, mac, front_length};
 ghost use Rattle.ieee802154.specs.Mac.{length_of, front_bytes, source_bytes, back_bytes, bytes_of};
 
-use super::addr::{AddressField, PanField};
-use super::addressing::{Addressing, AddressingRead, read_addressing};
+use super::addr::{Address, Pan, field_len, mode_of, pan_or_zero, put_field};
+use super::addressing::{Addressing, read_addressing};
 use super::control::{Control, FrameType, FrameVersion};
 use super::security::skip_auxiliary;
-use octets::cursor::{ByteRead, Cursor, Skipped, WordRead};
-use octets::field::ByteField;
+use octets::cursor::{Cursor, Read};
 use octets::refusal::Refusal;
-use octets::write::{Written, put_byte, put_le16};
+use octets::write::{put_byte, put_le16};
 
 // The bytes of a frame: the frame control field and one more at least, and at most what the radio carries.
 const SHORTEST: usize = 3;
@@ -20,55 +21,39 @@ const SHORTEST: usize = 3;
 const LONGEST: usize = 127;
 
 // The fields of a header.
+// (As in `Control`, what stands beside a flag holds in either case.)
 #[derive(Clone, Copy)]
 pub struct Repr {
     pub frame_type: FrameType,
     pub security_enabled: bool,
     pub frame_pending: bool,
     pub ack_request: bool,
-    pub sequence_number: ByteField,
+    pub sequence_number: Option<u8>,
     pub pan_id_compression: bool,
     pub frame_version: FrameVersion,
-    pub dst_pan_id: PanField,
-    pub dst_addr: AddressField,
-    pub src_pan_id: PanField,
-    pub src_addr: AddressField,
+    pub dst_pan_id: Option<Pan>,
+    pub dst_addr: Option<Address>,
+    pub src_pan_id: Option<Pan>,
+    pub src_addr: Option<Address>,
 }
 
-// A header and its length, or why there is none.
-#[derive(Clone, Copy)]
-pub enum Parsed {
-    Header(Repr, Cursor),
-    Refused(Refusal),
-}
-
-fn sequence_or_zero(q: ByteField) -> u8
+fn sequence_or_zero(q: Option<u8>) -> u8
     ensures { result ≡ sequence_or q }
 {
-    match q {
-        ByteField::None => 0,
-        ByteField::Some(x) => x,
-    }
-}
-
-#[derive(Clone, Copy)]
-pub enum SequenceRead {
-    Field(ByteField, Cursor),
-    Refused(Refusal),
+    q.unwrap_or(0)
 }
 
 impl Repr {
-    fn sequence(k: Control, byte: u8) -> ByteField
+    #[tactic(auto, unfolding(crate::specs::Mac::sequence_of))]
+    fn sequence(k: Control, byte: u8) -> Option<u8>
         ensures { result ≡ sequence_of k byte }
     {
-        if k.has_sequence() {
-            ByteField::Some(byte)
-        } else {
-            ByteField::None
-        }
+        if k.has_sequence() { Some(byte) } else { None }
     }
 
-    fn of(k: Control, sequence: ByteField, a: Addressing) -> Repr
+    // Of three things, as `repr_of` of specs/Mac.antt: a `From` would take them as a tuple, which is no plainer.
+    #[tactic(auto, unfolding(crate::specs::Mac::repr_of, crate::specs::Mac::sequence))]
+    fn of(k: Control, sequence: Option<u8>, a: Addressing) -> Repr
         ensures { result ≡ repr_of k sequence a }
     {
         let frame_type = k.frame_type;
@@ -95,68 +80,64 @@ impl Repr {
     }
 
     // What follows the frame control field and the sequence number.
-    fn rest(buf: &[u8], k: Control, sequence: ByteField, c: Cursor) -> Parsed
-        ensures { of_parsed result ≡ header_rest k sequence buf.now c.at }
+    #[tactic(auto, unfolding(crate::specs::Mac::header_rest, crate::specs::Mac::sequence))]
+    fn rest(buf: &[u8], k: Control, sequence: Option<u8>, c: Cursor) -> Read<Repr>
+        ensures { of_read result ≡ header_rest k sequence buf.now c.at }
     {
         if k.supported() {
-            match read_addressing(buf, c, k) {
-                AddressingRead::Field(a, d) => match skip_auxiliary(buf, d, k.security_enabled) {
-                    Skipped::Past(e) => Parsed::Header(Repr::of(k, sequence, a), e),
-                    Skipped::Refused(e) => Parsed::Refused(e),
-                },
-                AddressingRead::Refused(e) => Parsed::Refused(e),
-            }
+            let (a, d) = read_addressing(buf, c, k)?;
+            let e = skip_auxiliary(buf, d, k.security_enabled)?;
+            Ok((Repr::of(k, sequence, a), e))
         } else {
-            Parsed::Refused(Refusal::Unsupported)
+            Err(Refusal::Unsupported)
         }
     }
 
     // The sequence number, unless it is left out.
-    fn read_sequence(buf: &[u8], k: Control, c: Cursor) -> SequenceRead
-        ensures { of_sequence result ≡ sequence k buf.now c.at }
+    #[tactic(auto, unfolding(crate::specs::Mac::sequence))]
+    fn read_sequence(buf: &[u8], k: Control, c: Cursor) -> Read<Option<u8>>
+        ensures { of_read result ≡ sequence k buf.now c.at }
     {
         if k.omits_sequence() {
-            return SequenceRead::Field(ByteField::None, c);
+            return Ok((None, c));
         }
-        match c.byte(buf) {
-            ByteRead::Field(b, d) => SequenceRead::Field(Repr::sequence(k, b), d),
-            ByteRead::Refused(e) => SequenceRead::Refused(e),
-        }
+        let (b, d) = c.byte(buf)?;
+        Ok((Repr::sequence(k, b), d))
     }
 
     // What follows the frame control field.
-    fn after_control(buf: &[u8], k: Control, c: Cursor) -> Parsed
-        ensures { of_parsed result ≡ after_control k buf.now c.at }
+    #[tactic(auto, unfolding(crate::specs::Mac::after_control))]
+    fn after_control(buf: &[u8], k: Control, c: Cursor) -> Read<Repr>
+        ensures { of_read result ≡ after_control k buf.now c.at }
     {
-        match Repr::read_sequence(buf, k, c) {
-            SequenceRead::Field(q, d) => Repr::rest(buf, k, q, d),
-            SequenceRead::Refused(e) => Parsed::Refused(e),
-        }
+        let (q, d) = Repr::read_sequence(buf, k, c)?;
+        Repr::rest(buf, k, q, d)
     }
 
-    fn header(buf: &[u8]) -> Parsed
-        ensures { of_parsed result ≡ header buf.now 0 }
+    #[tactic(auto, unfolding(crate::specs::Mac::header))]
+    fn header(buf: &[u8]) -> Read<Repr>
+        ensures { of_read result ≡ header buf.now 0 }
     {
-        match Cursor::START.le16(buf) {
-            WordRead::Field(fc, c) => Repr::after_control(buf, Control::of(fc), c),
-            WordRead::Refused(e) => Parsed::Refused(e),
-        }
+        let (fc, c) = Cursor::START.le16(buf)?;
+        Repr::after_control(buf, Control::from(fc), c)
     }
 
     // The header and its length, the auxiliary security header included: the payload starts there.
-    pub fn parse(buf: &[u8]) -> Parsed
-        ensures { of_parsed result ≡ mac buf.now }
+    #[tactic(auto, unfolding(crate::specs::Mac::mac))]
+    pub fn parse(buf: &[u8]) -> Read<Repr>
+        ensures { of_read result ≡ mac buf.now }
     {
         if buf.len() < SHORTEST {
-            return Parsed::Refused(Refusal::Ended);
+            return Err(Refusal::Ended);
         }
         if LONGEST < buf.len() {
-            return Parsed::Refused(Refusal::BadLength);
+            return Err(Refusal::BadLength);
         }
         Repr::header(buf)
     }
 
     // Whether `emit` leaves the sequence number out.
+    #[tactic(auto, unfolding(crate::specs::Mac::suppresses))]
     fn suppresses(self) -> bool
         ensures { result ≡ suppresses self }
     {
@@ -164,8 +145,8 @@ impl Repr {
         let version = self.frame_version;
         let kind = self.frame_type;
         match sequence {
-            ByteField::None => version.may_omit(kind),
-            ByteField::Some(_) => false,
+            None => version.may_omit(kind),
+            Some(_) => false,
         }
     }
 
@@ -177,13 +158,14 @@ impl Repr {
     }
 
     // The length of the header that `emit` writes.
+    #[tactic(auto, unfolding(crate::specs::Mac::length_of))]
     pub fn buffer_len(self) -> usize
         ensures { result ≡ length_of self }
     {
         let dst_addr = self.dst_addr;
         let src_addr = self.src_addr;
         let front = self.front_len() as usize;
-        let addresses = dst_addr.len() + src_addr.len();
+        let addresses = field_len(dst_addr) + field_len(src_addr);
         if self.pan_id_compression {
             front + addresses
         } else {
@@ -199,8 +181,8 @@ impl Repr {
         let frame_version = self.frame_version;
         let dst_addr = self.dst_addr;
         let src_addr = self.src_addr;
-        let dst_addr_mode = dst_addr.mode();
-        let src_addr_mode = src_addr.mode();
+        let dst_addr_mode = mode_of(dst_addr);
+        let src_addr_mode = mode_of(src_addr);
         let sequence_suppressed = self.suppresses();
         Control {
             frame_type,
@@ -216,14 +198,15 @@ impl Repr {
     }
 
     // The frame control field, the sequence number unless it is left out, and the destination PAN.
+    #[tactic(auto, unfolding(crate::specs::Mac::front_bytes))]
     fn put_front(self, buf: &mut [u8])
         ensures { buf.new ≡ put 0 (front_bytes self) buf.old }
     {
         let sequence = self.sequence_number;
         let dst = self.dst_pan_id;
-        let word = self.control().word();
+        let word = u16::from(self.control());
         let byte = sequence_or_zero(sequence);
-        let pan = dst.or_zero();
+        let pan = pan_or_zero(dst);
         put_le16(buf, 0, word);
         if self.suppresses() {
             put_le16(buf, 2, pan.0);
@@ -234,6 +217,7 @@ impl Repr {
     }
 
     // The source PAN, unless compressed, and the source address.
+    #[tactic(auto, unfolding(crate::specs::Mac::source_bytes))]
     fn put_source(self, buf: &mut [u8], at: usize)
         ensures { buf.new ≡ put at (source_bytes self) buf.old }
     {
@@ -243,37 +227,39 @@ impl Repr {
         let src_addr = self.src_addr;
         let compressed = self.pan_id_compression;
         if compressed {
-            src_addr.put(buf, at);
+            put_field(buf, at, src_addr);
             return;
         }
         let src = self.src_pan_id;
-        let pan = src.or_zero();
+        let pan = pan_or_zero(src);
         put_le16(buf, at, pan.0);
-        src_addr.put(buf, at + 2);
+        put_field(buf, at + 2, src_addr);
     }
 
     // The destination address and what follows it.
+    #[tactic(auto, unfolding(crate::specs::Mac::back_bytes))]
     fn put_back(self, buf: &mut [u8])
         ensures { buf.new ≡ put (front_length self) (back_bytes self) buf.old }
     {
         let dst_addr = self.dst_addr;
         let at = self.front_len() as usize;
-        let n = dst_addr.len();
-        dst_addr.put(buf, at);
+        let n = field_len(dst_addr);
+        put_field(buf, at, dst_addr);
         self.put_source(buf, at + n);
     }
 
     // Writes the header into the front of the room. A missing sequence number is left out where it may be; else it is
     // written as zero, as a missing PAN is.
-    pub fn emit(self, buf: &mut [u8]) -> Written
+    #[tactic(auto, unfolding(crate::specs::Mac::length_of, crate::specs::Mac::bytes_of))]
+    pub fn emit(self, buf: &mut [u8]) -> Result<usize, Refusal>
         ensures { Emits result (length_of self) (bytes_of self) buf.old buf.new }
     {
         let n = self.buffer_len();
         if buf.len() < n {
-            return Written::Refused(Refusal::NoRoom);
+            return Err(Refusal::NoRoom);
         }
         self.put_front(buf);
         self.put_back(buf);
-        Written::Bytes(n)
+        Ok(n)
     }
 }

@@ -10,7 +10,7 @@
 // `Repr::emit` writes exactly the bytes that `bytes_of` lists, or refuses, 7, and leaves the room as it was. proofs/
 // shows that a length read is the sum of the fields' widths and within the frame (Lengths), and that exactly the
 // headers that `round_trips` admits read back as they were written (RoundTrips, Exact). No function asks anything of
-// its caller, and each contract fixes the answer and the lent bytes (Unique).
+// its caller, and each contract fixes the answer and the lent bytes.
 #![tactic(auto)]
 
 pub mod addr;
@@ -19,6 +19,6 @@ pub mod control;
 pub mod header;
 pub mod security;
 
-pub use addr::{Address, AddressAnswer, AddressField, Eui64, LinkLocal, Pan, PanField};
+pub use addr::{Address, Pan};
 pub use control::{AddressingMode, FrameType, FrameVersion};
-pub use header::{Parsed, Repr};
+pub use header::Repr;

@@ -1,4 +1,5 @@
 -- A frame that brings a part has a fragment header, and the part has its size and tag.
+use Rattle.std.specs.Prelude.{Some, None}
 use Prim.Native.Nat.{ℕ}
 use native.Mathlib.Omega.{arith}
 use mathlib.Core.Path.{◌≡◌, refl, ap}
@@ -7,9 +8,7 @@ use mathlib.Core.List.{List}
 use lib.ListN.{drop}
 use lib.Dec.{eqb}
 use Rattle.octets.specs.Read.{Answer, is, refused, Placed, and_then, choose}
-use Rattle.octets.specs.declared.field.WordField.{WordField}
 use Rattle.octets.proofs.Spans.{not-refused}
-use Rattle.ieee802154.specs.declared.addr.AddressField.{AddressField}
 use Rattle.sixlowpan.specs.Dispatch.{dispatch}
 use Rattle.sixlowpan.specs.Frag.{frag, size_of, tag_of}
 use Rattle.sixlowpan.specs.declared.dispatch.SixlowpanPacket.{SixlowpanPacket}
@@ -51,7 +50,7 @@ no-datagram d m size tag u bs e q = let z : ◌≡◌ {A = ℕ} 0 1 = ap kind_of
 module _ (ctx : List ℕ) (a : Arrival) (s : List ℕ) (size tag u : ℕ) (bs : List ℕ) (e : UdpSum) where
   no_whole : {X : Type 0} → whole ctx a s ≡ is (part size tag u bs e) → X
   unfolding whole
-  no_whole q = go (expansion ctx (AddressField.Some a.src) (AddressField.Some a.dst) WordField.None s a.payload.at) q
+  no_whole q = go (expansion ctx (Some a.src) (Some a.dst) None s a.payload.at) q
     where
       go : {X : Type 0} (r : Answer Expansion) → and_then r (λ x. is (datagram x.bytes x.sum)) ≡ is (part size tag u bs e) → X
       go (is x) q = no-datagram x.bytes x.sum size tag u bs e q
@@ -59,7 +58,7 @@ module _ (ctx : List ℕ) (a : Arrival) (s : List ℕ) (size tag u : ℕ) (bs : 
 
   piece-header : (h : Repr) (n : ℕ) → piece ctx a h n s ≡ is (part size tag u bs e) → (size_of h ≡ size) × (tag_of h ≡ tag)
   unfolding piece
-  piece-header (FirstFragment size' tag') n q = go (expansion ctx (AddressField.Some a.src) (AddressField.Some a.dst) (WordField.Some size') s n) q
+  piece-header (FirstFragment size' tag') n q = go (expansion ctx (Some a.src) (Some a.dst) (Some size') s n) q
     where
       go : (r : Answer Expansion) → and_then r (λ x. is (part size' tag' 0 x.bytes x.sum)) ≡ is (part size tag u bs e) → (size' ≡ size) × (tag' ≡ tag)
       go (is x) q = (ap size_in q, ap tag_in q)

@@ -1,4 +1,5 @@
 -- What the relays' headers change of a frame's arrival: the addresses, where a mesh header stands, and where the payload begins.
+use Rattle.std.specs.Prelude.{Some, None}
 use Prim.Native.Nat.{ℕ, ◌+◌, ◌/◌}
 use native.Mathlib.Omega.{arith}
 use mathlib.Core.List.{List}
@@ -11,7 +12,6 @@ use Rattle.octets.specs.Read.{is, refused, got, and_then, choose, byte}
 use Rattle.octets.proofs.Spans.{not-refused}
 use Rattle.relay.specs.Headers.{is_either, relay}
 use Rattle.relay.specs.declared.mesh.Mesh.{Mesh}
-use Rattle.relay.specs.declared.mesh.MeshField.{MeshField}
 use Rattle.relay.specs.declared.headers.Relay.{Relay}
 use Rattle.relay.proofs.Trips.{relay-none}
 use Rattle.sixlowpan.specs.Dispatch.{dispatch_of, dispatch}
@@ -58,11 +58,11 @@ module _ (s : List ℕ) where
     direct f = rw (e, relay-none s a.payload.at f) refl
 
     module _ (r : Relay) (n : ℕ) (f : relay s a.payload.at ≡ got r n) where
-      pub meshed : (m : Mesh) → r.mesh ≡ MeshField.Some m → arrival s ≡ is (record { src = m.origin; pan = a.pan; dst = m.destination; payload = record { at = n } })
+      pub meshed : (m : Mesh) → r.mesh ≡ Some m → arrival s ≡ is (record { src = m.origin; pan = a.pan; dst = m.destination; payload = record { at = n } })
       unfolding arrival
       meshed m g = rw (e, f, g) refl
 
       -- a broadcast header alone leaves the addresses
-      pub not-meshed : r.mesh ≡ MeshField.None → arrival s ≡ is (record { src = a.src; pan = a.pan; dst = a.dst; payload = record { at = n } })
+      pub not-meshed : r.mesh ≡ None → arrival s ≡ is (record { src = a.src; pan = a.pan; dst = a.dst; payload = record { at = n } })
       unfolding arrival
       not-meshed g = rw (e, f, g) refl

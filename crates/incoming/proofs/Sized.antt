@@ -1,4 +1,5 @@
 -- An unfragmented datagram has 40 to 455 bytes.
+use Rattle.std.specs.Prelude.{Some, None}
 use Prim.Native.Nat.{ℕ, ◌≤◌}
 use mathlib.Core.Path.{◌≡◌, refl}
 use mathlib.Core.Bool.{Bool, true, false}
@@ -6,8 +7,6 @@ use mathlib.Core.List.{List}
 use lib.ListN.{length, drop}
 use lib.Dec.{eqb}
 use Rattle.octets.specs.Read.{Answer, is, refused, and_then, choose}
-use Rattle.octets.specs.declared.field.WordField.{WordField}
-use Rattle.ieee802154.specs.declared.addr.AddressField.{AddressField}
 use Rattle.sixlowpan.specs.declared.dispatch.SixlowpanPacket.{SixlowpanPacket}
 use Rattle.sixlowpan.specs.declared.dispatch.SixlowpanPacket.TheVariants.{FragmentHeader, IphcHeader}
 use Rattle.sixlowpan.specs.Dispatch.{dispatch}
@@ -38,7 +37,7 @@ module _ (ctx : List ℕ) (a : Arrival) (s : List ℕ) where
   whole-sized : SizedBrought (whole ctx a s)
   unfolding whole
   whole-sized =
-      then-all SizedBrought (expansion ctx (AddressField.Some a.src) (AddressField.Some a.dst) WordField.None s a.payload.at) _ (λ n. tt)
+      then-all SizedBrought (expansion ctx (Some a.src) (Some a.dst) None s a.payload.at) _ (λ n. tt)
       (λ e q.
       let made = expansion-made ctx _ _ _ s a.payload.at e q in
       (at-least-40 ctx _ _ _ s a.payload.at e made, at-most-455 ctx _ _ _ s a.payload.at e made))
@@ -46,7 +45,7 @@ module _ (ctx : List ℕ) (a : Arrival) (s : List ℕ) where
   piece-sized : (h : Repr) (next : ℕ) → SizedBrought (piece ctx a h next s)
   unfolding piece
   piece-sized (FirstFragment size tag) next =
-      then-all SizedBrought (expansion ctx (AddressField.Some a.src) (AddressField.Some a.dst) (WordField.Some size) s next) _ (λ n. tt) (λ e q. tt)
+      then-all SizedBrought (expansion ctx (Some a.src) (Some a.dst) (Some size) s next) _ (λ n. tt) (λ e q. tt)
   piece-sized (Fragment size tag o) next = either (eqb o.0 0) (refused 10) (is (part size tag o.0 (drop next s) no_sum)) tt tt
 
   kind-sized : (k : SixlowpanPacket) → SizedBrought (by_kind k ctx a s)

@@ -8,9 +8,7 @@ use expand::checksum::UdpSum;
 use expand::copy::clear;
 use expand::{Expanded, LONGEST, fill};
 use octets::cursor::Cursor;
-use octets::field::WordField;
 use octets::refusal::Refusal;
-use sixlowpan::dispatch::DispatchAnswer;
 use sixlowpan::frag::Units;
 use sixlowpan::{SixlowpanPacket, frag};
 
@@ -30,16 +28,15 @@ pub enum Payload {
         sum: UdpSum,
         at: usize,
     },
-    Refused(Refusal),
 }
 
 // What a payload begins with: a compressed header at a place, of a whole datagram (no size) or of a first part; or the
-// bytes of a later part.
+// bytes of a later part. The size stands in an Option of its own, without the tag, as `fill` takes it.
 #[derive(Clone, Copy)]
 enum Head {
     Compressed {
         at: Cursor,
-        size: WordField,
+        size: Option<u16>,
         tag: u16,
     },
     Later {
@@ -48,124 +45,117 @@ enum Head {
         offset: Units,
         from: usize,
     },
-    Refused(Refusal),
 }
 
 // A part, whose fragment header ends at `next`.
-fn part_head(h: frag::Repr, next: Cursor) -> Head
+#[tactic(auto, using(crate::proofs::Steps::heads))]
+fn part_head(h: frag::Repr, next: Cursor) -> Result<Head, Refusal>
     ensures { (ctx : List ℕ) (a : Arrival) (s : List ℕ) → next.at ≤ length s
         → Begins result ctx a s (piece ctx a h next.at s) }
 {
     match h {
-        frag::Repr::FirstFragment { size, tag } => {
-            let size = WordField::Some(size);
-            Head::Compressed {
-                at: next,
-                size,
-                tag,
-            }
-        }
+        frag::Repr::FirstFragment { size, tag } => Ok(Head::Compressed {
+            at: next,
+            size: Some(size),
+            tag,
+        }),
         frag::Repr::Fragment { size, tag, offset } => {
             if offset.0 == 0 {
-                return Head::Refused(Refusal::BadPart);
+                return Err(Refusal::BadPart);
             }
-            Head::Later {
+            Ok(Head::Later {
                 size,
                 tag,
                 offset,
                 from: next.at,
-            }
+            })
         }
     }
 }
 
-fn fragment_head(frame: &[u8], c: Cursor) -> Head
+#[tactic(auto, using(crate::proofs::Steps::heads))]
+fn fragment_head(frame: &[u8], c: Cursor) -> Result<Head, Refusal>
     ensures { (ctx : List ℕ) (a : Arrival) → a.payload ≡ c
         → Begins result ctx a frame.now (fragment ctx a frame.now) }
 {
-    match frag::Repr::read(frame, c) {
-        frag::Parsed::Header(h, next) => part_head(h, next),
-        frag::Parsed::Refused(e) => Head::Refused(e),
-    }
+    let (h, next) = frag::Repr::read(frame, c)?;
+    part_head(h, next)
 }
 
 // By its dispatch, a compressed header or a fragment header.
-fn read_head(frame: &[u8], c: Cursor) -> Head
+#[tactic(auto, using(crate::proofs::Steps::heads))]
+fn read_head(frame: &[u8], c: Cursor) -> Result<Head, Refusal>
     ensures { (ctx : List ℕ) (a : Arrival) → a.payload ≡ c
         → Begins result ctx a frame.now (payload ctx a frame.now) }
 {
-    match SixlowpanPacket::dispatch_at(frame, c) {
-        DispatchAnswer::Is(kind) => match kind {
-            SixlowpanPacket::FragmentHeader => fragment_head(frame, c),
-            SixlowpanPacket::IphcHeader => {
-                let size = WordField::None;
-                Head::Compressed {
-                    at: c,
-                    size,
-                    tag: 0,
-                }
-            }
-        },
-        DispatchAnswer::Refused(e) => Head::Refused(e),
+    match SixlowpanPacket::dispatch_at(frame, c)? {
+        SixlowpanPacket::FragmentHeader => fragment_head(frame, c),
+        SixlowpanPacket::IphcHeader => Ok(Head::Compressed {
+            at: c,
+            size: None,
+            tag: 0,
+        }),
     }
 }
 
 // What was expanded: a whole datagram, where there is no size, or a first part.
-fn expanded(size: WordField, tag: u16, len: usize, sum: UdpSum) -> Payload
-    ensures { result ≡ expanded_to size tag len sum }
+fn expanded(size: Option<u16>, tag: u16, e: Expanded) -> Payload
+    ensures { result ≡ expanded_to size tag e.len e.sum }
 {
     match size {
-        WordField::None => Payload::Whole { len, sum },
-        WordField::Some(size) => {
-            let offset = Units(0);
-            Payload::Part {
-                size,
-                tag,
-                offset,
-                sum,
-                at: len,
-            }
-        }
+        None => Payload::Whole {
+            len: e.len,
+            sum: e.sum,
+        },
+        Some(size) => Payload::Part {
+            size,
+            tag,
+            offset: Units(0),
+            sum: e.sum,
+            at: e.len,
+        },
     }
 }
 
 impl Payload {
     // What stands behind the MAC header. The scratch holds what is expanded: 7 where it is shorter than the longest
     // expansion, 455 bytes. Every refusal clears it.
-    pub fn read(frame: &[u8], a: Arrival, contexts: &[u8], scratch: &mut [u8]) -> Payload
+    #[tactic(auto, using(crate::proofs::Steps::payloads))]
+    pub fn read(
+        frame: &[u8],
+        a: Arrival,
+        contexts: &[u8],
+        scratch: &mut [u8],
+    ) -> Result<Payload, Refusal>
         ensures { Brings result scratch.old scratch.new frame.now
             (payload_in scratch.old contexts.now a frame.now) }
     {
         if scratch.len() < LONGEST {
             clear(scratch);
-            return Payload::Refused(Refusal::NoRoom);
+            return Err(Refusal::NoRoom);
         }
         match read_head(frame, a.payload) {
-            Head::Compressed { at, size, tag } => {
-                let ll = a.link_addresses();
-                match fill(frame, at, ll, contexts, size, scratch) {
-                    Expanded::Datagram { len, sum } => expanded(size, tag, len, sum),
-                    Expanded::Refused(e) => Payload::Refused(e),
-                }
+            Ok(Head::Compressed { at, size, tag }) => {
+                let e = fill(frame, at, a.link_addresses(), contexts, size, scratch)?;
+                Ok(expanded(size, tag, e))
             }
-            Head::Later {
-                size,
-                tag,
-                offset,
-                from,
-            } => {
-                let sum = UdpSum::NONE;
-                Payload::Part {
+            Ok(
+                Head::Later {
                     size,
                     tag,
                     offset,
-                    sum,
-                    at: from,
-                }
-            }
-            Head::Refused(e) => {
+                    from,
+                },
+            ) => Ok(Payload::Part {
+                size,
+                tag,
+                offset,
+                sum: UdpSum::NONE,
+                at: from,
+            }),
+            Err(e) => {
                 clear(scratch);
-                Payload::Refused(e)
+                Err(e)
             }
         }
     }

@@ -1,4 +1,6 @@
 -- What is written are bytes, where the header's numbers have the sizes of their types.
+use Rattle.ieee802154.specs.declared.addr.Address.{Address}
+use Rattle.std.specs.Prelude.{Option}
 use Prim.Native.Nat.{ℕ, zero, suc, ◌+◌, ◌*◌, ◌/◌, ◌%◌, ◌^◌, ◌<◌}
 use native.Mathlib.Omega.{arith}
 use mathlib.Core.List.{List, [], ◌∷◌, ◌++◌}
@@ -8,7 +10,6 @@ use Rattle.octets.specs.Read.{choose}
 use Rattle.octets.specs.Write.{byte_bytes, be16_bytes, be32_bytes, be64_bytes}
 use Rattle.octets.specs.Ipv6.{is_unspecified, is_multicast, is_link_local}
 use Rattle.octets.specs.declared.ipv6.Ipv6Addr.{Ipv6Addr}
-use Rattle.ieee802154.specs.declared.addr.AddressField.{AddressField}
 use Rattle.sixlowpan.specs.Next.{next_bit, next_bytes}
 use Rattle.sixlowpan.specs.declared.protocol.NextHeader.{NextHeader}
 use Rattle.sixlowpan.specs.declared.protocol.NextHeader.TheVariants.{Compressed, Uncompressed}
@@ -59,7 +60,7 @@ bytes-hop h f = go (eqb (hop_bits h) 0b00)
     go true = bytes-byte h f
     go false = bytes-nil
 
-bytes-iid : (i : ℕ) (ll : AddressField) → i < 2 ^ 64 → FormBytes (iid_form i ll)
+bytes-iid : (i : ℕ) (ll : Option Address) → i < 2 ^ 64 → FormBytes (iid_form i ll)
 bytes-iid i ll h = iid-cases i ll FormBytes (λ e. bytes-nil) (λ e. bytes-be16 (i % 2 ^ 16) (omega arith)) (bytes-be64 i h)
 
 module _ (a : Ipv6Addr) (h : IpFits a) where
@@ -82,7 +83,7 @@ module _ (a : Ipv6Addr) (h : IpFits a) where
       go false false true = bytes-append (be16_bytes high48) (be32_bytes (a.iid % 2 ^ 32)) (bytes-be16 high48 (omega arith)) (bytes-be32 (a.iid % 2 ^ 32) (omega arith))
       go false false false = bytes-full
 
-  pub bytes-source : (ll : AddressField) → FormBytes (src_form a ll)
+  pub bytes-source : (ll : Option Address) → FormBytes (src_form a ll)
   unfolding src_form
   bytes-source ll = go (is_unspecified a) (is_link_local a)
     where
@@ -91,7 +92,7 @@ module _ (a : Ipv6Addr) (h : IpFits a) where
       go false true = bytes-iid a.iid ll h.1
       go false false = bytes-full
 
-  pub bytes-dest : (ll : AddressField) → FormBytes (dst_form a ll)
+  pub bytes-dest : (ll : Option Address) → FormBytes (dst_form a ll)
   unfolding dst_form
   bytes-dest ll = go (is_multicast a) (is_link_local a)
     where

@@ -6,7 +6,7 @@ use mathlib.Core.Bool.{Bool, true, false}
 use mathlib.Core.Path.{◌≡◌, refl, ap, subst}
 use lib.Dec.{ltb}
 use lib.ListN.{length, get_or}
-use Rattle.octets.specs.Read.{Answer, is, refused, Read, Reader, got, and_then, choose, branch, give, refuse, byte, be16, be32, ◌>>=◌}
+use Rattle.octets.specs.Read.{Answer, is, refused, Read, Reader, got, and_then, choose, branch, give, refuse, byte, be16, be32, ◌>>=◌, value_or}
 use Rattle.octets.proofs.Spans.{not-refused}
 use Rattle.iphc.specs.Iphc.{having}
 use Rattle.iphc.specs.Shortest.{Bytes}
@@ -17,10 +17,6 @@ pub record Gives {A : Type 0} (m : Reader A) (P : A → Type 0) : Type 0 where
 -- ---- as readers are put together
 pub gives_all : {A : Type 0} {P : A → Type 0} (m : Reader A) → ((a : A) → P a) → Gives m P
 gives_all m f = record { so = λ s at a n b e. f a }
-
-abbrev value_or : {A : Type 0} → A → Read A → A
-value_or x (is p) = p.value
-value_or x (refused n) = x
 
 pub gives-give : {A : Type 0} {P : A → Type 0} (x : A) → P x → Gives (give x) P
 gives-give {P = P} x p = record { so = λ s at a n b e. subst P (ap (value_or x) e) p }

@@ -1,4 +1,3 @@
-pub mod Steps
 pub mod Contexts
 pub mod Puts
 pub mod RoundTrip

@@ -1,4 +1,6 @@
 -- The branches of specs/Iphc.antt are the RFC's tables of TF, SAM and DAM (specs/Modes.antt), of every number that the bits can be.
+use Rattle.ieee802154.specs.declared.addr.Address.{Address}
+use Rattle.std.specs.Prelude.{Option}
 use Prim.Native.Nat.{ℕ}
 use mathlib.Core.List.{List}
 use mathlib.Core.Path.{◌≡◌, refl}
@@ -7,7 +9,6 @@ use lib.Dec.{eqb}
 use Rattle.octets.specs.Read.{Answer, is, refused, Reader, got, and_then, give, refuse, be16}
 use Rattle.octets.specs.Ipv6.{ip}
 use Rattle.octets.specs.declared.ipv6.Ipv6Addr.{Ipv6Addr}
-use Rattle.ieee802154.specs.declared.addr.AddressField.{AddressField}
 use Rattle.iphc.specs.Iphc.{traffic, link_iid, identifier, prefix_of, elided, source, multicast, destination}
 use Rattle.iphc.specs.Modes.{m00, mode_of, traffic_by, stateless, stateful, source_by, group, destination_by}
 use Rattle.iphc.specs.declared.read.Traffic.{Traffic}
@@ -25,7 +26,7 @@ pub tf-table : (none : Traffic) (tf : ℕ) (s : List ℕ) (at : ℕ) → traffic
 unfolding traffic mode_of
 tf-table none tf s at e = by (eqb tf 0b00) (λ a. rw a refl) (λ a. by (eqb tf 0b01) (λ b. rw (a, b) refl) (λ b. by (eqb tf 0b10) (λ c. rw (a, b, c) refl) (λ c. rw (a, b, c) e)))
 
-module _ (ctx : List ℕ) (id : ℕ) (ll : AddressField) (s : List ℕ) (at : ℕ) where
+module _ (ctx : List ℕ) (id : ℕ) (ll : Option Address) (s : List ℕ) (at : ℕ) where
   -- an address whose prefix is elided: without a context, and with one
   plain : (ac mode : ℕ) → eqb ac 0 ≡ true → eqb mode 0b00 ≡ false → elided ctx ac mode id ll s at ≡ stateless ll (mode_of mode) s at
   unfolding elided identifier prefix_of mode_of

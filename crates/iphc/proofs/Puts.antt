@@ -8,7 +8,7 @@ use lib.ListN.{length, length-append}
 use lib.Dec.{eqb}
 use Rattle.octets.specs.Read.{choose}
 use Rattle.octets.specs.Write.{put, byte_bytes, be16_bytes, be32_bytes, be64_bytes}
-use Rattle.octets.proofs.Puts.{more}
+use Rattle.octets.proofs.Puts.{more, put-none, put-nil, more-be16, more-be64, room-short, room-enough, written_over}
 use Rattle.iphc.specs.Emit.{inline_length, inline_bytes, hop_bits, hop_length, hop_bytes, front_length, front_bytes, addresses_length, addresses_bytes, source_form, dest_form, length_of, bytes_of}
 use Rattle.sixlowpan.specs.declared.protocol.NextHeader.{NextHeader}
 use Rattle.sixlowpan.proofs.NextLaws.{length-next, more-next}
@@ -76,4 +76,8 @@ emit-bytes r s d f l m k es ed ef p q =
     let e : put f (addresses_bytes s d) m ≡ put (0 + f) (addresses_bytes s d) m = ap (λ z. put z (addresses_bytes s d) m) (omega arith) in
     more l m k 0 f (front_bytes n h s d) (addresses_bytes s d) b p (q ∙ e) ∙ ap (λ z. put 0 (front_bytes n h z d ++ addresses_bytes z d) l) es ∙ ap (λ z. put 0 (front_bytes n h (source_form r) z ++ addresses_bytes (source_form r) z) l) ed
 
-pub ruleset iphc-puts = (more-next, more-inline, more-word)
+pub ruleset iphc_puts = (put-none, more-next, more-inline, more-word)
+
+pub ruleset inline_puts = (put-none, put-nil, more-be16, more-be64)
+
+pub ruleset emit_puts = (room-short, room-enough, written_over, emit-length, emit-bytes, length-bytes)

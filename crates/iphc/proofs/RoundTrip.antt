@@ -1,10 +1,11 @@
 -- What the writer's definition writes, the reader's definition reads back, with the same link-layer addresses and whatever the contexts:
 -- both addresses, the next header and the hop limit; and it takes exactly the bytes that were written, whatever follows.
+use Rattle.ieee802154.specs.declared.addr.Address.{Address}
+use Rattle.std.specs.Prelude.{Option, Some, None}
 use Prim.Native.Nat.{ℕ, ◌+◌, ◌*◌, ◌/◌, ◌%◌, ◌^◌, ◌<◌, ◌≤◌}
 use native.Mathlib.Omega.{arith}
 use mathlib.Core.List.{List, [], ◌++◌, append_assoc}
 use mathlib.Core.Bool.{Bool, true, false}
-use mathlib.Core.Option.{Option, none, some}
 use mathlib.Core.Path.{◌≡◌, refl, sym, ap, ap₂, subst, ◌∙◌}
 use lib.ListN.{length}
 use lib.Dec.{eqb, ltb}
@@ -13,19 +14,16 @@ use Rattle.octets.specs.Read.{is, Reader, got, choose, branch, ◌>>=◌, give, 
 use Rattle.octets.specs.Write.{over, byte_bytes, be16_bytes, be32_bytes, be64_bytes}
 use Rattle.octets.specs.Ipv6.{ip, link_local, is_unspecified, is_multicast, is_link_local}
 use Rattle.octets.specs.declared.ipv6.Ipv6Addr.{Ipv6Addr}
-use Rattle.octets.specs.declared.field.ByteField.{ByteField}
 use Rattle.octets.proofs.Steps.{and-true}
 use Rattle.octets.proofs.RoundTrip.{Reads, reads_then, reads-last, reads_both, reads-map, reads_as, reads-if, reads-give, reads_byte, reads-be16, reads-be32, reads-be64, emit-then-read}
 use Rattle.ieee802154.specs.Address.{eui64}
 use Rattle.ieee802154.specs.declared.addr.Address.TheVariants.{Absent, Short, Extended}
-use Rattle.ieee802154.specs.declared.addr.AddressField.{AddressField}
 use Rattle.sixlowpan.specs.Next.{next_header, next_bit, next_bytes}
 use Rattle.iphc.specs.Iphc.{base_of, base, contexts, traffic_of, traffic, hop_limit, front_rest, front, short_iid, or_refuse, link_iid, having, identifier, full, prefix_of, elided, source, group48, group32, group8, multicast, destination, addresses, repr_of, behind, iphc}
 use Rattle.iphc.specs.Emit.{inline_bytes, form, full_form, is_short, is_of, is_extended, iid_form, src_form, is_group8, is_scoped, scope_of, multicast_form, dst_form, hop_bits, hop_bytes, base_word, front_bytes, addresses_bytes, source_form, dest_form, length_of, bytes_of}
 use Rattle.sixlowpan.specs.declared.protocol.NextHeader.{NextHeader}
 use Rattle.iphc.specs.declared.form.Inline.TheVariants.{Nothing, Bits8, Bits16, Bits32, Bits48, Bits64}
 use Rattle.iphc.specs.declared.form.Form.{Form}
-use Rattle.iphc.specs.declared.label.LabelField.{LabelField}
 use Rattle.iphc.specs.declared.read.Base.{Base}
 use Rattle.iphc.specs.declared.read.Contexts.{Contexts}
 use Rattle.iphc.specs.declared.read.Traffic.{Traffic}
@@ -49,24 +47,24 @@ reads-hop h = hop-go h (eqb h 1) (eqb h 64) (eqb h 255) refl refl refl
 
 -- ---- addresses
 -- an identifier that is elided is the one that the link-layer address stands for
-short-link : (ll : AddressField) (x : ℕ) → is_short ll x ≡ true → link_iid ll ≡ is (short_iid x)
-short-link AddressField.None x e = cc
-short-link (AddressField.Some Absent) x e = cc
-short-link (AddressField.Some (Short a)) x e = ap (λ z. is (short_iid z)) (eqb-true a x e)
-short-link (AddressField.Some (Extended a)) x e = cc
+short-link : (ll : Option Address) (x : ℕ) → is_short ll x ≡ true → link_iid ll ≡ is (short_iid x)
+short-link None x e = cc
+short-link (Some Absent) x e = cc
+short-link (Some (Short a)) x e = ap (λ z. is (short_iid z)) (eqb-true a x e)
+short-link (Some (Extended a)) x e = cc
 
 of_is : (o : Option ℕ) (i : ℕ) → is_of o i ≡ true → or_refuse 6 o ≡ is i
-of_is none i e = cc
-of_is (some x) i e = ap is (eqb-true x i e)
+of_is None i e = cc
+of_is (Some x) i e = ap is (eqb-true x i e)
 
-pub extended-link : (ll : AddressField) (i : ℕ) → is_extended ll i ≡ true → link_iid ll ≡ is i
-extended-link AddressField.None i e = cc
-extended-link (AddressField.Some Absent) i e = cc
-extended-link (AddressField.Some (Short a)) i e = cc
-extended-link (AddressField.Some (Extended a)) i e = of_is (eui64 (Extended a)) i e
+pub extended-link : (ll : Option Address) (i : ℕ) → is_extended ll i ≡ true → link_iid ll ≡ is i
+extended-link None i e = cc
+extended-link (Some Absent) i e = cc
+extended-link (Some (Short a)) i e = cc
+extended-link (Some (Extended a)) i e = of_is (eui64 (Extended a)) i e
 
 -- the three ways in which an identifier is written
-pub iid-cases : (i : ℕ) (ll : AddressField) (P : Form → Type 0)
+pub iid-cases : (i : ℕ) (ll : Option Address) (P : Form → Type 0)
     → (link_iid ll ≡ is i → P (form 0b11 Nothing)) → (short_iid (i % 2 ^ 16) ≡ i → P (form 0b10 (Bits16 (i % 2 ^ 16)))) → P (form 0b01 (Bits64 i)) → P (iid_form i ll)
 unfolding iid_form
 iid-cases i ll P f3 f2 f1 = go (eqb (i / 2 ^ 16) 0xfffe00) (is_short ll (i % 2 ^ 16)) (is_extended ll i) refl refl refl
@@ -85,15 +83,15 @@ reads-full : (a : Ipv6Addr) → Reads full (be64_bytes a.prefix ++ be64_bytes a.
 unfolding full
 reads-full a = reads_both be64 be64 ip (be64_bytes a.prefix) (be64_bytes a.iid) a.prefix a.iid (reads-be64 a.prefix) (reads-be64 a.iid)
 
-pub link-back : (ll : AddressField) (i : ℕ) → link_iid ll ≡ is i → Reads (identifier 0b11 ll) [] i
+pub link-back : (ll : Option Address) (i : ℕ) → link_iid ll ≡ is i → Reads (identifier 0b11 ll) [] i
 unfolding identifier
 link-back ll i h p q n e = rw h (reads-give i p q n e)
 
-short_back : (ll : AddressField) (i : ℕ) → short_iid (i % 2 ^ 16) ≡ i → Reads (identifier 0b10 ll) (be16_bytes (i % 2 ^ 16)) i
+short_back : (ll : Option Address) (i : ℕ) → short_iid (i % 2 ^ 16) ≡ i → Reads (identifier 0b10 ll) (be16_bytes (i % 2 ^ 16)) i
 unfolding identifier
 short_back ll i h = reads_as (identifier 0b10 ll) (be16_bytes (i % 2 ^ 16)) (short_iid (i % 2 ^ 16)) i h (reads-map be16 short_iid (be16_bytes (i % 2 ^ 16)) (i % 2 ^ 16) (reads-be16 (i % 2 ^ 16)))
 
-long-back : (ll : AddressField) (i : ℕ) → Reads (identifier 0b01 ll) (be64_bytes i) i
+long-back : (ll : Option Address) (i : ℕ) → Reads (identifier 0b01 ll) (be64_bytes i) i
 unfolding identifier
 long-back ll i = reads-be64 i
 
@@ -115,20 +113,20 @@ same-ip : (a : Ipv6Addr) (p i : ℕ) → p ≡ a.prefix → i ≡ a.iid → ip p
 same-ip a p i e f = ap₂ ip e f
 
 -- an address of fe80::/64 whose identifier is read so
-pub reads-elided : (ctx : List ℕ) (mode id : ℕ) (ll : AddressField) (bs : List ℕ) (a : Ipv6Addr) → a.prefix ≡ link_local → Reads (identifier mode ll) bs a.iid → Reads (elided ctx 0 mode id ll) bs a
+pub reads-elided : (ctx : List ℕ) (mode id : ℕ) (ll : Option Address) (bs : List ℕ) (a : Ipv6Addr) → a.prefix ≡ link_local → Reads (identifier mode ll) bs a.iid → Reads (elided ctx 0 mode id ll) bs a
 unfolding elided prefix_of
 reads-elided ctx mode id ll bs a e r =
     reads-last (identifier mode ll) (λ z. having (prefix_of ctx 0 id) (λ p. give (ip p z))) bs a.iid a r
     (reads_as (give (ip link_local a.iid)) [] (ip link_local a.iid) a (same-ip a link_local a.iid (sym e) refl) (reads-give (ip link_local a.iid)))
 
 -- an address whose form is f is read back from its mode and its inline bytes
-abbrev pub LocalBack : List ℕ → ℕ → AddressField → Ipv6Addr → Form → Type 0
+abbrev pub LocalBack : List ℕ → ℕ → Option Address → Ipv6Addr → Form → Type 0
 LocalBack ctx id ll a f = Reads (elided ctx 0 f.mode id ll) (inline_bytes f.inline) a × ((0 < f.mode) × (f.mode < 4))
 
-abbrev pub SourceBack : List ℕ → ℕ → AddressField → Ipv6Addr → Form → Type 0
+abbrev pub SourceBack : List ℕ → ℕ → Option Address → Ipv6Addr → Form → Type 0
 SourceBack ctx id ll a f = Reads (source ctx (f.mode / 4) (f.mode % 4) id ll) (inline_bytes f.inline) a × (f.mode < 8)
 
-abbrev pub DestBack : List ℕ → ℕ → AddressField → Ipv6Addr → Form → Type 0
+abbrev pub DestBack : List ℕ → ℕ → Option Address → Ipv6Addr → Form → Type 0
 DestBack ctx id ll a f = Reads (destination ctx (f.mode / 8) (f.mode / 4 % 2) (f.mode % 4) id ll) (inline_bytes f.inline) a × (f.mode < 16)
 
 scoped-is : (a : Ipv6Addr) (b : ℕ) → is_scoped a b ≡ true → (a.prefix % 2 ^ 48 ≡ 0) × (a.iid < b)
@@ -150,7 +148,7 @@ module _ (a : Ipv6Addr) where
       → ip ((0xff00 + (scope_of a * 2 ^ 8 + a.iid / 2 ^ 32 % 2 ^ 8) / 256) * 2 ^ 48) ((scope_of a * 2 ^ 8 + a.iid / 2 ^ 32 % 2 ^ 8) % 256 * 2 ^ 32 + a.iid % 2 ^ 32) ≡ a
   group48-is m e = let w = scoped-is a (2 ^ 40) e in same-ip a _ _ (omega arith) (omega arith)
 
-module _ (ctx : List ℕ) (id : ℕ) (ll : AddressField) (a : Ipv6Addr) where
+module _ (ctx : List ℕ) (id : ℕ) (ll : Option Address) (a : Ipv6Addr) where
   local_back : a.prefix ≡ link_local → LocalBack ctx id ll a (iid_form a.iid ll)
   local_back e =
       let i : ℕ = a.iid in
@@ -252,7 +250,7 @@ abbrev no_contexts : Contexts
 no_contexts = record { src = 0; dst = 0 }
 
 abbrev no_traffic : Traffic
-no_traffic = traffic_of ByteField.None ByteField.None LabelField.None
+no_traffic = traffic_of None None None
 
 reads-no-contexts : (c : ℕ) → c ≡ 0 → Reads (contexts c) [] no_contexts
 unfolding contexts
@@ -273,7 +271,7 @@ reads-front b n h ec et en eh =
     (reads_then (traffic b.tf) (λ t. front_rest b no_contexts t) [] bs no_traffic (front_of n h) (reads-no-traffic b.tf et)
     (reads_both (next_header b.nh) (hop_limit b.hlim) front_of (next_bytes n) (hop_bytes h) n h (subst (λ z. Reads (next_header z) (next_bytes n) n) (sym en) (reads-next n)) (subst (λ z. Reads (hop_limit z) (hop_bytes h) h) (sym eh) (reads-hop h))))
 
-reads-addresses : (ctx : List ℕ) (b : Base) (ls ld : AddressField) (s d : Ipv6Addr) (f g : Form)
+reads-addresses : (ctx : List ℕ) (b : Base) (ls ld : Option Address) (s d : Ipv6Addr) (f g : Form)
     → b.sac ≡ f.mode / 4 → b.sam ≡ f.mode % 4 → b.m ≡ g.mode / 8 → b.dac ≡ g.mode / 4 % 2 → b.dam ≡ g.mode % 4
     → SourceBack ctx 0 ls s f → DestBack ctx 0 ld d g → Reads (addresses ctx b no_contexts ls ld) (addresses_bytes f g) (record { src = s; dst = d })
 unfolding addresses addresses_bytes
@@ -294,9 +292,9 @@ restored r =
       ll_dst_addr = r.ll_dst_addr;
       next_header = r.next_header;
       hop_limit = r.hop_limit;
-      ecn = ByteField.None;
-      dscp = ByteField.None;
-      flow_label = LabelField.None;
+      ecn = None;
+      dscp = None;
+      flow_label = None;
     }
 
 -- wherever the bytes of a header stand, whatever follows them and whatever the contexts: with any forms of its addresses that read back

@@ -1,6 +1,8 @@
 -- The header that is written is the shortest that reads as the same addresses, next header and hop limit, with no contexts, but for the
 -- exception of specs/Shortest.antt. The first two bytes announce the width of each field (Lengths.antt); here, field by field: what is read
 -- from a field of j bytes is written in at most j.
+use Rattle.ieee802154.specs.declared.addr.Address.{Address}
+use Rattle.std.specs.Prelude.{Option, Some, None}
 use Prim.Native.Nat.{ℕ, ◌+◌, ◌-◌, ◌*◌, ◌/◌, ◌%◌, ◌^◌, ◌<◌, ◌≤◌}
 use native.Mathlib.Omega.{arith}
 use mathlib.Core.List.{List, [], ◌++◌, append-nil}
@@ -17,7 +19,6 @@ use Rattle.octets.proofs.RoundTrip.{Reads}
 use Rattle.octets.proofs.Spans.{Starts, not-refused, starts-then, starts-be16}
 use Rattle.ieee802154.specs.Address.{flip57}
 use Rattle.ieee802154.specs.declared.addr.Address.TheVariants.{Absent, Short, Extended}
-use Rattle.ieee802154.specs.declared.addr.AddressField.{AddressField}
 use Rattle.sixlowpan.specs.Next.{next_header, next_bit, next_width}
 use Rattle.sixlowpan.specs.declared.protocol.NextHeader.TheVariants.{Compressed, Uncompressed}
 use Rattle.iphc.specs.Context.{context_at}
@@ -69,22 +70,22 @@ needs-front b =
     (λ t v. gives_both (next_header b.nh) (hop_limit b.hlim) (λ n h. record { contexts = i; traffic = t; next_header = n; hop_limit = h }) (needs-next b.nh) (needs-hop b.hlim) (λ n h p q. omega arith)))
 
 -- ---- identifiers
-abbrev source_needs : AddressField → Ipv6Addr → ℕ
+abbrev source_needs : Option Address → Ipv6Addr → ℕ
 source_needs ll a = inline_length (src_form a ll).inline - spare a ll
 
-abbrev dest_needs : AddressField → Ipv6Addr → ℕ
+abbrev dest_needs : Option Address → Ipv6Addr → ℕ
 dest_needs ll a = inline_length (dst_form a ll).inline - spare a ll
 
 -- of an address of fe80::/64
-abbrev iid_needs : AddressField → ℕ → ℕ
+abbrev iid_needs : Option Address → ℕ → ℕ
 iid_needs ll i = inline_length (iid_form i ll).inline - spare (ip link_local i) ll
 
 -- at most 64 bits are carried
-iid-8 : (ll : AddressField) (i : ℕ) → iid_needs ll i ≤ 8
+iid-8 : (ll : Option Address) (i : ℕ) → iid_needs ll i ≤ 8
 iid-8 ll i = iid-cases i ll (λ f. inline_length f.inline - spare (ip link_local i) ll ≤ 8) (λ e. omega arith) (λ e. omega arith) (omega arith)
 
 -- of 0000:00ff:fe00:XXXX at most 16
-iid-2 : (ll : AddressField) (x : ℕ) → x < 2 ^ 16 → iid_needs ll (short_iid x) ≤ 2
+iid-2 : (ll : Option Address) (x : ℕ) → x < 2 ^ 16 → iid_needs ll (short_iid x) ≤ 2
 unfolding iid_form
 iid-2 ll x h = rw (eq-eqb (short_iid x / 2 ^ 16) 0xfffe00 (omega arith)) (go (is_short ll (short_iid x % 2 ^ 16)) _)
   where
@@ -93,23 +94,23 @@ iid-2 ll x h = rw (eq-eqb (short_iid x / 2 ^ 16) 0xfffe00 (omega arith)) (go (is
     go false k = omega arith
 
 -- of the one that the link-layer address stands for none
-iid-0 : (ll : AddressField) (i : ℕ) → LinkFits ll → link_iid ll ≡ is i → iid_needs ll i ≤ 0
+iid-0 : (ll : Option Address) (i : ℕ) → LinkFits ll → link_iid ll ≡ is i → iid_needs ll i ≤ 0
 unfolding iid_form
-iid-0 AddressField.None i h e = not-refused _ 6 e
-iid-0 (AddressField.Some Absent) i h e = not-refused _ 6 e
-iid-0 (AddressField.Some (Short x)) i h e =
+iid-0 None i h e = not-refused _ 6 e
+iid-0 (Some Absent) i h e = not-refused _ 6 e
+iid-0 (Some (Short x)) i h e =
     let z : short_iid x ≡ i = cc in
     rw (eq-eqb (i / 2 ^ 16) 0xfffe00 (omega arith), eq-eqb x (i % 2 ^ 16) (omega arith)) (omega arith)
-iid-0 (AddressField.Some (Extended x)) i h e = go (eqb (i / 2 ^ 16) 0xfffe00) refl
+iid-0 (Some (Extended x)) i h e = go (eqb (i / 2 ^ 16) 0xfffe00) refl
   where
     same : eqb (flip57 x) i ≡ true
     same = let z : flip57 x ≡ i = cc in eq-eqb (flip57 x) i z
 
-    go : (b : Bool) → eqb (i / 2 ^ 16) 0xfffe00 ≡ b → iid_needs (AddressField.Some (Extended x)) i ≤ 0
+    go : (b : Bool) → eqb (i / 2 ^ 16) 0xfffe00 ≡ b → iid_needs (Some (Extended x)) i ≤ 0
     go true t = rw (t, same) (omega arith)
     go false t = rw (t, same) (omega arith)
 
-needs-identifier : (mode : ℕ) (ll : AddressField) → LinkFits ll → Needs (identifier mode ll) (iid_needs ll) (identifier_width mode)
+needs-identifier : (mode : ℕ) (ll : Option Address) → LinkFits ll → Needs (identifier mode ll) (iid_needs ll) (identifier_width mode)
 unfolding identifier
 needs-identifier mode ll h =
     needs-branch (eqb mode 0b01) be64 _ 8 _ (gives_all be64 (iid-8 ll))
@@ -125,32 +126,32 @@ prefix-is : (t : Bool) (id p : ℕ) → choose t (is link_local) (context_at [] 
 prefix-is true id p e = cc
 prefix-is false id p e = not-refused p 5 (sym (no-context id) ∙ e)
 
-needs-elided : (ac mode id : ℕ) (ll : AddressField) (K : Ipv6Addr → ℕ) → LinkFits ll → ((i : ℕ) → K (ip link_local i) ≤ iid_needs ll i) → Needs (elided [] ac mode id ll) K (identifier_width mode)
+needs-elided : (ac mode id : ℕ) (ll : Option Address) (K : Ipv6Addr → ℕ) → LinkFits ll → ((i : ℕ) → K (ip link_local i) ≤ iid_needs ll i) → Needs (elided [] ac mode id ll) K (identifier_width mode)
 unfolding elided prefix_of
 needs-elided ac mode id ll K h f =
     gives_then (identifier mode ll) (λ i. having (prefix_of [] ac id) (λ p. give (ip p i))) (needs-identifier mode ll h)
     (λ i q. gives-having (prefix_of [] ac id) (λ p. give (ip p i))
     (λ p e. gives-give (ip p i) (subst (λ z. K (ip z i) ≤ identifier_width mode) (prefix-is (eqb ac 0) id p e) (omega (arith, f i)))))
 
-source-16 : (ll : AddressField) (a : Ipv6Addr) → source_needs ll a ≤ 16
+source-16 : (ll : Option Address) (a : Ipv6Addr) → source_needs ll a ≤ 16
 source-16 ll a = omega (arith, (short-source a ll).short)
 
-dest-16 : (ll : AddressField) (a : Ipv6Addr) → dest_needs ll a ≤ 16
+dest-16 : (ll : Option Address) (a : Ipv6Addr) → dest_needs ll a ≤ 16
 dest-16 ll a = omega (arith, (short-dest a ll).short)
 
-source-local : (ll : AddressField) (i : ℕ) → source_needs ll (ip link_local i) ≤ iid_needs ll i
+source-local : (ll : Option Address) (i : ℕ) → source_needs ll (ip link_local i) ≤ iid_needs ll i
 unfolding src_form
 source-local ll i = omega arith
 
-dest-local : (ll : AddressField) (i : ℕ) → dest_needs ll (ip link_local i) ≤ iid_needs ll i
+dest-local : (ll : Option Address) (i : ℕ) → dest_needs ll (ip link_local i) ≤ iid_needs ll i
 unfolding dst_form
 dest-local ll i = omega arith
 
-source-none : (ll : AddressField) → source_needs ll (ip 0 0) ≤ 0
+source-none : (ll : Option Address) → source_needs ll (ip 0 0) ≤ 0
 unfolding src_form
 source-none ll = omega arith
 
-needs-source : (sac sam id : ℕ) (ll : AddressField) → LinkFits ll → Needs (source [] sac sam id ll) (source_needs ll) (source_width sac sam)
+needs-source : (sac sam id : ℕ) (ll : Option Address) → LinkFits ll → Needs (source [] sac sam id ll) (source_needs ll) (source_width sac sam)
 unfolding source
 needs-source sac sam id ll h =
     needs-branch (eqb sam 0b00) _ (elided [] sac sam id ll) _ _
@@ -158,7 +159,7 @@ needs-source sac sam id ll h =
     (needs-elided sac sam id ll (source_needs ll) h (source-local ll))
 
 -- a group
-group-needs : (ll : AddressField) (a : Ipv6Addr) → is_multicast a ≡ true → dest_needs ll a ≤ inline_length (multicast_form a).inline
+group-needs : (ll : Option Address) (a : Ipv6Addr) → is_multicast a ≡ true → dest_needs ll a ≤ inline_length (multicast_form a).inline
 unfolding dst_form
 group-needs ll a h = rw h (omega arith)
 
@@ -186,7 +187,7 @@ group-1 a h = rw h (omega arith)
 scoped : (a : Ipv6Addr) (b : ℕ) → a.prefix % 2 ^ 48 ≡ 0 → a.iid < b → is_scoped a b ≡ true
 scoped a b e h = rw (eq-eqb (a.prefix % 2 ^ 48) 0 e, lt-ltb a.iid b h)
 
-needs-group48 : (ll : AddressField) → Needs group48 (dest_needs ll) 6
+needs-group48 : (ll : Option Address) → Needs group48 (dest_needs ll) 6
 unfolding group48
 needs-group48 ll =
     gives_both be16 be32 (λ x y. ip ((0xff00 + x / 256) * 2 ^ 48) (x % 256 * 2 ^ 32 + y)) gives-be16 gives-be32
@@ -195,7 +196,7 @@ needs-group48 ll =
     let m : is_multicast a ≡ true = eq-eqb (a.prefix / 2 ^ 56) 0xff (omega arith) in
     omega (arith, group-needs ll a m, group-6 a (scoped a (2 ^ 40) (omega arith) (omega arith))))
 
-needs-group32 : (ll : AddressField) → Needs group32 (dest_needs ll) 4
+needs-group32 : (ll : Option Address) → Needs group32 (dest_needs ll) 4
 unfolding group32
 needs-group32 ll =
     gives-map be32 (λ x. ip ((0xff00 + x / 2 ^ 24) * 2 ^ 48) (x % 2 ^ 24)) gives-be32
@@ -204,7 +205,7 @@ needs-group32 ll =
     let m : is_multicast a ≡ true = eq-eqb (a.prefix / 2 ^ 56) 0xff (omega arith) in
     omega (arith, group-needs ll a m, group-4 a (scoped a (2 ^ 24) (omega arith) (omega arith))))
 
-needs-group8 : (ll : AddressField) → Needs group8 (dest_needs ll) 1
+needs-group8 : (ll : Option Address) → Needs group8 (dest_needs ll) 1
 unfolding group8
 needs-group8 ll =
     gives-map byte (ip (0xff02 * 2 ^ 48)) gives-byte
@@ -212,13 +213,13 @@ needs-group8 ll =
     let a : Ipv6Addr = ip (0xff02 * 2 ^ 48) x in
     omega (arith, group-needs ll a refl, group-1 a (lt-ltb x 256 p)))
 
-needs-multicast : (dam : ℕ) (ll : AddressField) → Needs (multicast dam) (dest_needs ll) (multicast_width dam)
+needs-multicast : (dam : ℕ) (ll : Option Address) → Needs (multicast dam) (dest_needs ll) (multicast_width dam)
 unfolding multicast
 needs-multicast dam ll =
     needs-branch (eqb dam 0b00) full _ 16 _ (gives_all full (dest-16 ll))
     (needs-branch (eqb dam 0b01) group48 _ 6 _ (needs-group48 ll) (needs-branch (eqb dam 0b10) group32 group8 4 1 (needs-group32 ll) (needs-group8 ll)))
 
-needs-destination : (m dac dam id : ℕ) (ll : AddressField) → LinkFits ll → Needs (destination [] m dac dam id ll) (dest_needs ll) (destination_width m dam)
+needs-destination : (m dac dam id : ℕ) (ll : Option Address) → LinkFits ll → Needs (destination [] m dac dam id ll) (dest_needs ll) (destination_width m dam)
 unfolding destination
 needs-destination m dac dam id ll h =
     needs-branch (eqb m 0) _ _ _ _
@@ -226,10 +227,10 @@ needs-destination m dac dam id ll h =
     (gives-either (eqb dac 0) (multicast dam) (refuse 3) (needs-multicast dam ll) (gives-refuse 3))
 
 -- ---- the header
-abbrev header_needs : AddressField → AddressField → Repr → ℕ
+abbrev header_needs : Option Address → Option Address → Repr → ℕ
 header_needs ls ld r = next_width (next_bit r.next_header) + hop_length r.hop_limit + (source_needs ls r.src_addr + dest_needs ld r.dst_addr)
 
-module _ (ls ld : AddressField) (hs : LinkFits ls) (hd : LinkFits ld) where
+module _ (ls ld : Option Address) (hs : LinkFits ls) (hd : LinkFits ld) where
   needs-addresses : (b : Base) (i : Contexts) → Needs (addresses [] b i ls ld) (λ a. source_needs ls a.src + dest_needs ld a.dst) (source_width b.sac b.sam + destination_width b.m b.dam)
   unfolding addresses
   needs-addresses b i =
@@ -242,14 +243,14 @@ module _ (ls ld : AddressField) (hs : LinkFits ls) (hd : LinkFits ld) where
       gives_then (front b) (λ f. ◌>>=◌ (addresses [] b f.contexts ls ld) (λ a. give (repr_of ls ld f a))) (needs-front b)
       (λ f p. gives-map (addresses [] b f.contexts ls ld) (repr_of ls ld f) (needs-addresses b f.contexts) (λ a q. omega arith))
 
-same-needs : (ls ld : AddressField) (q h : Repr) → q.src_addr ≡ h.src_addr → q.dst_addr ≡ h.dst_addr → q.next_header ≡ h.next_header → q.hop_limit ≡ h.hop_limit → header_needs ls ld q ≡ header_needs ls ld h
+same-needs : (ls ld : Option Address) (q h : Repr) → q.src_addr ≡ h.src_addr → q.dst_addr ≡ h.dst_addr → q.next_header ≡ h.next_header → q.hop_limit ≡ h.hop_limit → header_needs ls ld q ≡ header_needs ls ld h
 same-needs ls ld q h es ed en eh = cc
 
 least-needs : (h : Repr) → least h ≤ 2 + header_needs h.ll_src_addr h.ll_dst_addr h
 unfolding least length_of
 least-needs h = omega arith
 
-starts-iphc : (ls ld : AddressField) → Starts (iphc [] ls ld)
+starts-iphc : (ls ld : Option Address) → Starts (iphc [] ls ld)
 unfolding iphc base
 starts-iphc ls ld = starts-then base (λ v. behind [] ls ld (base_of v)) (starts-then be16 (λ v. branch (eqb (v / 2 ^ 13) 0b011) (give v) (refuse 2)) starts-be16)
 
@@ -266,18 +267,18 @@ none-shorter h f s at n b r =
 
 -- ---- one takes just the least: ours, with the exceptions elided
 -- an exception is of fe80::/64, carries 16 bits in ours, and its identifier is the one that the link-layer address stands for
-record Exception (a : Ipv6Addr) (ll : AddressField) : Type 0 where
+record Exception (a : Ipv6Addr) (ll : Option Address) : Type 0 where
   local : a.prefix ≡ link_local
   two : inline_length (iid_form a.iid ll).inline ≡ 2
   link : link_iid ll ≡ is a.iid
 
-not_short : (ll : AddressField) (i x : ℕ) → is_extended ll i ≡ true → is_short ll x ≡ false
-not_short AddressField.None i x e = cc
-not_short (AddressField.Some Absent) i x e = cc
-not_short (AddressField.Some (Short a)) i x e = cc
-not_short (AddressField.Some (Extended a)) i x e = refl
+not_short : (ll : Option Address) (i x : ℕ) → is_extended ll i ≡ true → is_short ll x ≡ false
+not_short None i x e = cc
+not_short (Some Absent) i x e = cc
+not_short (Some (Short a)) i x e = cc
+not_short (Some (Extended a)) i x e = refl
 
-exception : (a : Ipv6Addr) (ll : AddressField) → is_spare a ll ≡ true → Exception a ll
+exception : (a : Ipv6Addr) (ll : Option Address) → is_spare a ll ≡ true → Exception a ll
 unfolding iid_form
 exception a ll e =
     let w = and-true (is_link_local a) (eqb (a.iid / 2 ^ 16) 0xfffe00 && is_extended ll a.iid) e in
@@ -287,18 +288,18 @@ exception a ll e =
 abbrev elide_if : Bool → Form → Form
 elide_if t f = choose t (form 0b11 Nothing) f
 
-elided-back : (a : Ipv6Addr) (ll : AddressField) → Exception a ll → LocalBack [] 0 ll a (form 0b11 Nothing)
+elided-back : (a : Ipv6Addr) (ll : Option Address) → Exception a ll → LocalBack [] 0 ll a (form 0b11 Nothing)
 elided-back a ll x = (reads-elided [] 0b11 0 ll [] a x.local (link-back ll a.iid x.link), omega arith)
 
-source-two : (a : Ipv6Addr) (ll : AddressField) → Exception a ll → inline_length (src_form a ll).inline ≡ 2
+source-two : (a : Ipv6Addr) (ll : Option Address) → Exception a ll → inline_length (src_form a ll).inline ≡ 2
 unfolding src_form
 source-two a ll x = rw x.local x.two
 
-dest-two : (a : Ipv6Addr) (ll : AddressField) → Exception a ll → inline_length (dst_form a ll).inline ≡ 2
+dest-two : (a : Ipv6Addr) (ll : Option Address) → Exception a ll → inline_length (dst_form a ll).inline ≡ 2
 unfolding dst_form
 dest-two a ll x = rw x.local x.two
 
-elide-cases : (a : Ipv6Addr) (ll : AddressField) (f : Form) (P : Form → Type 0) → (Exception a ll → P (form 0b11 Nothing)) → P f → P (elide_if (is_spare a ll) f)
+elide-cases : (a : Ipv6Addr) (ll : Option Address) (f : Form) (P : Form → Type 0) → (Exception a ll → P (form 0b11 Nothing)) → P f → P (elide_if (is_spare a ll) f)
 elide-cases a ll f P x y = go (is_spare a ll) refl
   where
     go : (t : Bool) → is_spare a ll ≡ t → P (elide_if t f)
@@ -306,17 +307,17 @@ elide-cases a ll f P x y = go (is_spare a ll) refl
     go false e = y
 
 -- a form f that carries two bytes at an exception: elided there, it takes those less
-less-spare : (a : Ipv6Addr) (ll : AddressField) (f : Form) → (Exception a ll → inline_length f.inline ≡ 2) → inline_length (elide_if (is_spare a ll) f).inline + spare a ll ≡ inline_length f.inline
+less-spare : (a : Ipv6Addr) (ll : Option Address) (f : Form) → (Exception a ll → inline_length f.inline ≡ 2) → inline_length (elide_if (is_spare a ll) f).inline + spare a ll ≡ inline_length f.inline
 less-spare a ll f h = go (is_spare a ll) refl
   where
     go : (t : Bool) → is_spare a ll ≡ t → inline_length (elide_if t f).inline + choose t 2 0 ≡ inline_length f.inline
     go true e = omega (arith, h (exception a ll e))
     go false e = omega arith
 
-source-elided : (a : Ipv6Addr) (ll : AddressField) → SourceBack [] 0 ll a (elide_if (is_spare a ll) (src_form a ll))
+source-elided : (a : Ipv6Addr) (ll : Option Address) → SourceBack [] 0 ll a (elide_if (is_spare a ll) (src_form a ll))
 source-elided a ll = elide-cases a ll (src_form a ll) (SourceBack [] 0 ll a) (λ x. local-source [] 0 ll a (form 0b11 Nothing) (elided-back a ll x)) (source-back [] 0 ll a)
 
-dest-elided : (a : Ipv6Addr) (ll : AddressField) → DestBack [] 0 ll a (elide_if (is_spare a ll) (dst_form a ll))
+dest-elided : (a : Ipv6Addr) (ll : Option Address) → DestBack [] 0 ll a (elide_if (is_spare a ll) (dst_form a ll))
 dest-elided a ll = elide-cases a ll (dst_form a ll) (DestBack [] 0 ll a) (λ x. local-dest [] 0 ll a (form 0b11 Nothing) (elided-back a ll x)) (dest-back [] 0 ll a)
 
 module _ (h : Repr) where
@@ -369,5 +370,5 @@ module _ (h : Repr) where
       record { bytes = least_bytes; are-bytes = least-bytes f; length-is = length-least; are-read = record { header = restored h; is_read = rw (e, k) at r; src = refl; dst = refl; next = refl; hop = refl } }
 
 -- there are exceptions: the scope document's trap, fe80::ff:fe00:1234 and the extended address 020000fffe001234
-pub trap : spare (ip link_local 0xff_fe00_1234) (AddressField.Some (Extended 0x0200_00ff_fe00_1234)) ≡ 2
+pub trap : spare (ip link_local 0xff_fe00_1234) (Some (Extended 0x0200_00ff_fe00_1234)) ≡ 2
 trap = refl

@@ -1,12 +1,6 @@
 -- Address contexts (RFC 6282, 3.1.2): prefixes of 64 bits, lent as flat bytes, 8 for each identifier from 0 on; a shorter rest is ignored.
 use Rattle.std.specs.Prelude.{ℕ, ◌*◌, List}
 use Rattle.octets.specs.Read.{Answer, is, refused, Read, be64}
-use Rattle.octets.specs.Refusal.{number_of}
-use Rattle.iphc.specs.declared.context.PrefixAnswer.{PrefixAnswer}
-
-abbrev pub of_prefix : PrefixAnswer → Answer ℕ
-of_prefix (PrefixAnswer.Is p) = is p
-of_prefix (PrefixAnswer.Refused e) = refused (number_of e)
 
 -- what is read, with no place; a field that is not there is a context that is not in the list, 5
 abbrev pub listed : Read ℕ → Answer ℕ

@@ -1,14 +1,13 @@
 -- The compressed IPv6 header, as it is written (RFC 6282, 3): TF = 11 and no context, and each address in the shortest of its modes that
 -- fits, but that an identifier 0000:00ff:fe00:XXXX is elided against a short link-layer address alone.
-use Rattle.std.specs.Prelude.{ℕ, ◌+◌, ◌*◌, ◌/◌, ◌%◌, ◌^◌, List, [], ◌++◌, Bool, false, ◌&&◌, ltb, eqb}
-use Rattle.std.proofs.Math.Option.{Option, none, some}
+use Rattle.ieee802154.specs.declared.addr.Address.{Address}
+use Rattle.std.specs.Prelude.{ℕ, ◌+◌, ◌*◌, ◌/◌, ◌%◌, ◌^◌, List, [], ◌++◌, Bool, false, ◌&&◌, ltb, eqb, Option, Some, None}
 use Rattle.octets.specs.Read.{choose}
 use Rattle.octets.specs.Write.{byte_bytes, be16_bytes, be32_bytes, be64_bytes}
 use Rattle.octets.specs.Ipv6.{is_unspecified, is_multicast, is_link_local}
 use Rattle.octets.specs.declared.ipv6.Ipv6Addr.{Ipv6Addr}
 use Rattle.ieee802154.specs.Address.{eui64}
 use Rattle.ieee802154.specs.declared.addr.Address.TheVariants.{Absent, Short, Extended}
-use Rattle.ieee802154.specs.declared.addr.AddressField.{AddressField}
 use Rattle.sixlowpan.specs.Next.{next_bit, next_width, next_bytes}
 use Rattle.sixlowpan.specs.declared.protocol.NextHeader.{NextHeader}
 use Rattle.iphc.specs.declared.form.Inline.{Inline}
@@ -43,30 +42,30 @@ abbrev pub full_form : ℕ → Ipv6Addr → Form
 full_form m a = form m (Bits128 a.prefix a.iid)
 
 -- ---- 3.2.2, identifiers: whether the link-layer address is the short address x, or an extended one whose identifier is i
-abbrev pub is_short : AddressField → ℕ → Bool
-is_short AddressField.None x = false
-is_short (AddressField.Some Absent) x = false
-is_short (AddressField.Some (Short a)) x = eqb a x
-is_short (AddressField.Some (Extended a)) x = false
+abbrev pub is_short : Option Address → ℕ → Bool
+is_short None x = false
+is_short (Some Absent) x = false
+is_short (Some (Short a)) x = eqb a x
+is_short (Some (Extended a)) x = false
 
 abbrev pub is_of : Option ℕ → ℕ → Bool
-is_of none i = false
-is_of (some x) i = eqb x i
+is_of None i = false
+is_of (Some x) i = eqb x i
 
-abbrev pub is_extended : AddressField → ℕ → Bool
-is_extended AddressField.None i = false
-is_extended (AddressField.Some a) i = is_of (eui64 a) i
+abbrev pub is_extended : Option Address → ℕ → Bool
+is_extended None i = false
+is_extended (Some a) i = is_of (eui64 a) i
 
 -- of a link-local address. 0000:00ff:fe00:XXXX: elided where XXXX is the short link-layer address, else XXXX in 16 bits.
 -- Any other: elided where it is that of the extended link-layer address, else 64 bits
-unfoldable pub iid_form : ℕ → AddressField → Form
+unfoldable pub iid_form : ℕ → Option Address → Form
 iid_form i ll =
     choose (eqb (i / 2 ^ 16) 0xfffe00)
     (choose (is_short ll (i % 2 ^ 16)) (form 0b11 Nothing) (form 0b10 (Bits16 (i % 2 ^ 16))))
     (choose (is_extended ll i) (form 0b11 Nothing) (form 0b01 (Bits64 i)))
 
 -- ---- 3.1.1, SAC SAM
-unfoldable pub src_form : Ipv6Addr → AddressField → Form
+unfoldable pub src_form : Ipv6Addr → Option Address → Form
 src_form a ll = choose (is_unspecified a) (form 0b100 Nothing) (choose (is_link_local a) (iid_form a.iid ll) (full_form 0b000 a))
 
 -- ---- 3.1.1, M DAC DAM
@@ -90,7 +89,7 @@ multicast_form a =
     (choose (is_scoped a (2 ^ 40)) (form 0b1001 (Bits48 (scope_of a * 2 ^ 8 + a.iid / 2 ^ 32 % 2 ^ 8) (a.iid % 2 ^ 32)))
     (full_form 0b1000 a)))
 
-unfoldable pub dst_form : Ipv6Addr → AddressField → Form
+unfoldable pub dst_form : Ipv6Addr → Option Address → Form
 dst_form a ll = choose (is_multicast a) (multicast_form a) (choose (is_link_local a) (iid_form a.iid ll) (full_form 0b0000 a))
 
 -- ---- 3.1.1, HLIM

@@ -1,17 +1,14 @@
 -- The compressed IPv6 header, as it is read (RFC 6282, 3).
-use Rattle.std.specs.Prelude.{ℕ, ◌+◌, ◌*◌, ◌/◌, ◌%◌, ◌^◌, ◌<◌, List, eqb}
-use Rattle.std.proofs.Math.Option.{Option, none, some}
-use Rattle.octets.specs.Read.{Answer, is, refused, Read, Reader, got, and_then, choose, branch, give, refuse, byte, be16, be32, be64, ◌>>=◌}
+use Rattle.ieee802154.specs.declared.addr.Address.{Address}
+use Rattle.std.specs.Prelude.{ℕ, ◌+◌, ◌*◌, ◌/◌, ◌%◌, ◌^◌, ◌<◌, List, eqb, Option, Some, None}
+use Rattle.octets.specs.Read.{Answer, is, refused, Reader, and_then, choose, branch, give, refuse, byte, be16, be32, be64, ◌>>=◌}
 use Rattle.octets.specs.Ipv6.{ip, link_local}
-use Rattle.octets.specs.declared.field.ByteField.{ByteField}
 use Rattle.octets.specs.declared.ipv6.Ipv6Addr.{Ipv6Addr}
 use Rattle.ieee802154.specs.Address.{eui64}
 use Rattle.ieee802154.specs.declared.addr.Address.TheVariants.{Absent, Short, Extended}
-use Rattle.ieee802154.specs.declared.addr.AddressField.{AddressField}
 use Rattle.iphc.specs.Context.{context_at}
 use Rattle.sixlowpan.specs.Next.{next_header}
 use Rattle.iphc.specs.declared.label.FlowLabel.{FlowLabel}
-use Rattle.iphc.specs.declared.label.LabelField.{LabelField}
 use Rattle.iphc.specs.declared.read.Base.{Base}
 use Rattle.iphc.specs.declared.read.Contexts.{Contexts}
 use Rattle.iphc.specs.declared.read.Traffic.{Traffic}
@@ -55,29 +52,29 @@ contexts cid =
       give (record { src = b / 16; dst = b % 16 }))
 
 -- ---- 3.2.1, TF
-abbrev pub traffic_of : ByteField → ByteField → LabelField → Traffic
+abbrev pub traffic_of : Option ℕ → Option ℕ → Option FlowLabel → Traffic
 traffic_of e d f = record { ecn = e; dscp = d; flow_label = f }
 
 -- ECN is the top two bits of its byte, and keeps its place; DSCP is the low six
-abbrev pub ecn_of : ℕ → ByteField
-ecn_of b = ByteField.Some (b / 64 * 64)
+abbrev pub ecn_of : ℕ → Option ℕ
+ecn_of b = Some (b / 64 * 64)
 
-abbrev pub dscp_of : ℕ → ByteField
-dscp_of b = ByteField.Some (b % 64)
+abbrev pub dscp_of : ℕ → Option ℕ
+dscp_of b = Some (b % 64)
 
 -- the flow label: 20 bits, the low four of a byte and the two bytes behind it. The byte's other bits are padding, and ECN where TF = 01
 abbrev pub label_of : ℕ → ℕ → FlowLabel
 label_of high low = record { 0 = high % 16 * 2 ^ 16 + low }
 
 -- what a label is to be
-abbrev pub LabelFits : LabelField → Type 0
-LabelFits LabelField.None = Unit {0}
-LabelFits (LabelField.Some l) = l.0 < 2 ^ 20
+abbrev pub LabelFits : Option FlowLabel → Type 0
+LabelFits None = Unit {0}
+LabelFits (Some l) = l.0 < 2 ^ 20
 
-unfoldable pub labelled : ℕ → ByteField → ByteField → Reader Traffic
+unfoldable pub labelled : ℕ → Option ℕ → Option ℕ → Reader Traffic
 labelled high e d = do
   low ← be16
-  give (traffic_of e d (LabelField.Some (label_of high low)))
+  give (traffic_of e d (Some (label_of high low)))
 
 -- 00: ECN (2 bits), DSCP (6), padding (4), flow label (20)
 unfoldable pub class_and_label : Reader Traffic
@@ -90,20 +87,20 @@ class_and_label = do
 unfoldable pub ecn_and_label : Reader Traffic
 ecn_and_label = do
   b ← byte
-  labelled b (ecn_of b) ByteField.None
+  labelled b (ecn_of b) None
 
 -- 10: ECN (2), DSCP (6)
 unfoldable pub class_only : Reader Traffic
 class_only = do
   b ← byte
-  give (traffic_of (ecn_of b) (dscp_of b) LabelField.None)
+  give (traffic_of (ecn_of b) (dscp_of b) None)
 
 -- 11: nothing
 unfoldable pub traffic : ℕ → Reader Traffic
 traffic tf =
     branch (eqb tf 0b00) class_and_label
     (branch (eqb tf 0b01) ecn_and_label
-    (branch (eqb tf 0b10) class_only (give (traffic_of ByteField.None ByteField.None LabelField.None))))
+    (branch (eqb tf 0b10) class_only (give (traffic_of None None None))))
 
 -- ---- 3.1.1, HLIM: inline, 1, 64 or 255
 unfoldable pub hop_limit : ℕ → Reader ℕ
@@ -128,22 +125,22 @@ abbrev pub short_iid : ℕ → ℕ
 short_iid x = 0xff_fe00_0000 + x
 
 abbrev pub or_refuse : {A : Type 0} → ℕ → Option A → Answer A
-or_refuse n none = refused n
-or_refuse n (some a) = is a
+or_refuse n None = refused n
+or_refuse n (Some a) = is a
 
 -- the identifier that a link-layer address stands for: a short one's, or the EUI-64 of an extended one; 6 where there is no address
-abbrev pub link_iid : AddressField → Answer ℕ
-link_iid AddressField.None = refused 6
-link_iid (AddressField.Some Absent) = refused 6
-link_iid (AddressField.Some (Short x)) = is (short_iid x)
-link_iid (AddressField.Some (Extended x)) = or_refuse 6 (eui64 (Extended x))
+abbrev pub link_iid : Option Address → Answer ℕ
+link_iid None = refused 6
+link_iid (Some Absent) = refused 6
+link_iid (Some (Short x)) = is (short_iid x)
+link_iid (Some (Extended x)) = or_refuse 6 (eui64 (Extended x))
 
 -- a value that takes no bytes, or its refusal, and then what is read with it
 abbrev pub having : {A B : Type 0} → Answer A → (A → Reader B) → Reader B
 having a k s at = and_then a (λ x. k x s at)
 
 -- SAM and DAM 01, 10, 11: the identifier in 64 bits, in 16, or elided
-unfoldable pub identifier : ℕ → AddressField → Reader ℕ
+unfoldable pub identifier : ℕ → Option Address → Reader ℕ
 identifier mode ll =
     branch (eqb mode 0b01) be64
     (branch (eqb mode 0b10)
@@ -164,18 +161,14 @@ full = do
 unfoldable pub prefix_of : List ℕ → ℕ → ℕ → Answer ℕ
 prefix_of ctx ac id = choose (eqb ac 0) (is link_local) (context_at ctx id)
 
--- an identifier that was read, behind its prefix
-unfoldable pub prefixed : List ℕ → ℕ → ℕ → Read ℕ → Read Ipv6Addr
-prefixed ctx ac id r = and_then r (λ i. and_then (prefix_of ctx ac id) (λ p. got (ip p i.value) i.next))
-
 -- an address whose prefix is elided: its identifier is settled first, and then its prefix
-unfoldable pub elided : List ℕ → ℕ → ℕ → ℕ → AddressField → Reader Ipv6Addr
+unfoldable pub elided : List ℕ → ℕ → ℕ → ℕ → Option Address → Reader Ipv6Addr
 elided ctx ac mode id ll = do
   i ← identifier mode ll
   having (prefix_of ctx ac id) (λ p. give (ip p i))
 
 -- SAC = 1 with SAM = 00 is the unspecified address
-unfoldable pub source : List ℕ → ℕ → ℕ → ℕ → AddressField → Reader Ipv6Addr
+unfoldable pub source : List ℕ → ℕ → ℕ → ℕ → Option Address → Reader Ipv6Addr
 source ctx sac sam id ll =
     branch (eqb sam 0b00) (branch (eqb sac 0) full (give (ip 0 0)))
     (elided ctx sac sam id ll)
@@ -204,20 +197,20 @@ unfoldable pub multicast : ℕ → Reader Ipv6Addr
 multicast dam = branch (eqb dam 0b00) full (branch (eqb dam 0b01) group48 (branch (eqb dam 0b10) group32 group8))
 
 -- M = 0, DAC = 1, DAM = 00 is reserved; M = 1 with DAC = 1 is not supported (a listed difference from the RFC): 3
-unfoldable pub destination : List ℕ → ℕ → ℕ → ℕ → ℕ → AddressField → Reader Ipv6Addr
+unfoldable pub destination : List ℕ → ℕ → ℕ → ℕ → ℕ → Option Address → Reader Ipv6Addr
 destination ctx m dac dam id ll =
     branch (eqb m 0)
     (branch (eqb dam 0b00) (branch (eqb dac 0) full (refuse 3)) (elided ctx dac dam id ll))
     (branch (eqb dac 0) (multicast dam) (refuse 3))
 
-unfoldable pub addresses : List ℕ → Base → Contexts → AddressField → AddressField → Reader Addresses
+unfoldable pub addresses : List ℕ → Base → Contexts → Option Address → Option Address → Reader Addresses
 addresses ctx b i ls ld = do
   s ← source ctx b.sac b.sam i.src ls
   d ← destination ctx b.m b.dac b.dam i.dst ld
   give (record { src = s; dst = d })
 
 -- ---- the header
-unfoldable pub repr_of : AddressField → AddressField → Front → Addresses → Repr
+unfoldable pub repr_of : Option Address → Option Address → Front → Addresses → Repr
 repr_of ls ld f a =
     record {
       src_addr = a.src;
@@ -232,13 +225,13 @@ repr_of ls ld f a =
     }
 
 -- ctx: the contexts; ls and ld: the link-layer addresses of the frame that the header came in
-unfoldable pub behind : List ℕ → AddressField → AddressField → Base → Reader Repr
+unfoldable pub behind : List ℕ → Option Address → Option Address → Base → Reader Repr
 behind ctx ls ld b = do
   f ← front b
   a ← addresses ctx b f.contexts ls ld
   give (repr_of ls ld f a)
 
-unfoldable pub iphc : List ℕ → AddressField → AddressField → Reader Repr
+unfoldable pub iphc : List ℕ → Option Address → Option Address → Reader Repr
 iphc ctx ls ld = do
   v ← base
   behind ctx ls ld (base_of v)

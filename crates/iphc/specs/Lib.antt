@@ -1,5 +1,4 @@
 pub mod Context
-pub mod Answers
 pub mod Iphc
 pub mod Emit
 pub mod Widths

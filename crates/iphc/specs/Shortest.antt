@@ -1,11 +1,11 @@
 -- Is our header the shortest? Of all bytes that read, with the same link-layer addresses and no contexts, as the same addresses, next header
 -- and hop limit, none are fewer than those that are written (Emit.antt), with one exception.
-use Rattle.std.specs.Prelude.{ℕ, ◌+◌, ◌-◌, ◌/◌, ◌^◌, ◌<◌, ◌≤◌, List, [], Bool, ◌&&◌, ◌≡◌, eqb, length, get_or}
+use Rattle.ieee802154.specs.declared.addr.Address.{Address}
+use Rattle.std.specs.Prelude.{ℕ, ◌+◌, ◌-◌, ◌/◌, ◌^◌, ◌<◌, ◌≤◌, List, [], Bool, ◌&&◌, ◌≡◌, eqb, length, get_or, Option, Some, None}
 use Rattle.octets.specs.Read.{got, choose}
 use Rattle.octets.specs.Ipv6.{is_link_local}
 use Rattle.octets.specs.declared.ipv6.Ipv6Addr.{Ipv6Addr}
 use Rattle.ieee802154.specs.declared.addr.Address.TheVariants.{Absent, Short, Extended}
-use Rattle.ieee802154.specs.declared.addr.AddressField.{AddressField}
 use Rattle.sixlowpan.specs.declared.protocol.NextHeader.{NextHeader}
 use Rattle.sixlowpan.specs.declared.protocol.NextHeader.TheVariants.{Compressed, Uncompressed}
 use Rattle.iphc.specs.Iphc.{iphc}
@@ -15,10 +15,10 @@ use Rattle.iphc.specs.declared.header.Repr.{Repr}
 -- ---- the least length
 -- the exception: an address of fe80::/64 whose last eight bytes are 000000fffe00 and two more, and equal the identifier of the extended
 -- address of its side
-abbrev pub is_spare : Ipv6Addr → AddressField → Bool
+abbrev pub is_spare : Ipv6Addr → Option Address → Bool
 is_spare a ll = is_link_local a && (eqb (a.iid / 2 ^ 16) 0xfffe00 && is_extended ll a.iid)
 
-abbrev pub spare : Ipv6Addr → AddressField → ℕ
+abbrev pub spare : Ipv6Addr → Option Address → ℕ
 spare a ll = choose (is_spare a ll) 2 0
 
 -- two for each side that is an exception
@@ -33,11 +33,11 @@ least h = length_of h - spares h
 abbrev pub Bytes : List ℕ → Type 0
 Bytes s = (i : ℕ) → get_or s i 0 < 256
 
-abbrev pub LinkFits : AddressField → Type 0
-LinkFits AddressField.None = Unit {0}
-LinkFits (AddressField.Some Absent) = Unit {0}
-LinkFits (AddressField.Some (Short x)) = x < 2 ^ 16
-LinkFits (AddressField.Some (Extended x)) = x < 2 ^ 64
+abbrev pub LinkFits : Option Address → Type 0
+LinkFits None = Unit {0}
+LinkFits (Some Absent) = Unit {0}
+LinkFits (Some (Short x)) = x < 2 ^ 16
+LinkFits (Some (Extended x)) = x < 2 ^ 64
 
 abbrev pub NextFits : NextHeader → Type 0
 NextFits Compressed = Unit {0}

@@ -1,11 +1,11 @@
 // How an address of a compressed header is written: the bits of its mode, and the bytes that are carried inline.
-ghost use Rattle.std.specs.Prelude.{◌≡◌};
+ghost use Rattle.std.specs.Prelude.{◌≡◌, ◌≤◌};
 ghost use Rattle.octets.specs.Write.{put};
 ghost use Rattle.iphc.specs.Emit.{inline_length, inline_bytes, is_short, is_extended, iid_form, src_form, is_group8};
 ghost use Rattle.iphc.specs.Emit.{is_scoped};
 ghost use Rattle.iphc.specs.Emit.{multicast_form, dst_form};
 
-use ieee802154::addr::{Address, AddressField, Eui64};
+use ieee802154::addr::Address;
 use octets::ipv6::Ipv6Addr;
 use octets::write::{put_be16, put_be32, put_be64, put_byte};
 
@@ -22,6 +22,7 @@ pub enum Inline {
 }
 
 // The mode: SAC SAM of a source address, M DAC DAM of a destination address.
+// A number, as `base_word` of specs/Emit.antt takes it: the bits of both modes go into one word.
 #[derive(Clone, Copy)]
 pub struct Form {
     pub mode: u8,
@@ -30,8 +31,9 @@ pub struct Form {
 
 impl Inline {
     // How many bytes are carried.
-    pub fn len(self) -> u8
-        ensures { result ≡ inline_length self }
+    pub fn len(self) -> usize
+        ensures value { result ≡ inline_length self }
+        ensures upper_bound { result ≤ 16 }
     {
         match self {
             Inline::Nothing => 0,
@@ -45,6 +47,8 @@ impl Inline {
     }
 
     // Puts the bytes at a place of the room.
+    // (The room and a place in it, as the writers of octets take them.)
+    #[tactic(auto, using(crate::proofs::Puts::inline_puts), unfolding(octets::specs::Write::put))]
     pub fn put(self, buf: &mut [u8], at: usize)
         ensures { buf.new ≡ put at (inline_bytes self) buf.old }
     {
@@ -69,75 +73,65 @@ impl Inline {
     }
 }
 
-fn is_short(ll: AddressField, x: u16) -> bool
+fn is_short(ll: Option<Address>, x: u16) -> bool
     ensures { result ≡ is_short ll x }
 {
-    match ll {
-        AddressField::None => false,
-        AddressField::Some(a) => match a {
-            Address::Absent => false,
-            Address::Short(s) => s == x,
-            Address::Extended(_) => false,
-        },
-    }
+    ll == Some(Address::Short(x))
 }
 
-fn is_extended(ll: AddressField, iid: u64) -> bool
+fn is_extended(ll: Option<Address>, iid: u64) -> bool
     ensures { result ≡ is_extended ll iid }
 {
-    match ll {
-        AddressField::None => false,
-        AddressField::Some(a) => match a.as_eui_64() {
-            Eui64::Some(x) => x == iid,
-            Eui64::None => false,
-        },
-    }
+    ll.is_some_and(|a| a.as_eui_64() == Some(iid))
 }
 
 // How the identifier of a link-local address is written against the link-layer address.
-fn iid_form(iid: u64, ll: AddressField) -> Form
+#[tactic(auto, unfolding(crate::specs::Emit::iid_form))]
+fn iid_form(iid: u64, ll: Option<Address>) -> Form
     ensures { result ≡ iid_form iid ll }
 {
     if iid / 0x1_0000 == 0xfffe00 {
         let x = (iid % 0x1_0000) as u16;
         if is_short(ll, x) {
-            return Form {
+            Form {
                 mode: 0b11,
                 inline: Inline::Nothing,
-            };
+            }
+        } else {
+            Form {
+                mode: 0b10,
+                inline: Inline::Bits16(x),
+            }
         }
-        return Form {
-            mode: 0b10,
-            inline: Inline::Bits16(x),
-        };
-    }
-    if is_extended(ll, iid) {
-        return Form {
+    } else if is_extended(ll, iid) {
+        Form {
             mode: 0b11,
             inline: Inline::Nothing,
-        };
-    }
-    Form {
-        mode: 0b01,
-        inline: Inline::Bits64(iid),
+        }
+    } else {
+        Form {
+            mode: 0b01,
+            inline: Inline::Bits64(iid),
+        }
     }
 }
 
-pub fn src_form(a: Ipv6Addr, ll: AddressField) -> Form
+#[tactic(auto, unfolding(crate::specs::Emit::src_form))]
+pub fn src_form(a: Ipv6Addr, ll: Option<Address>) -> Form
     ensures { result ≡ src_form a ll }
 {
     if a.is_unspecified() {
-        return Form {
+        Form {
             mode: 0b100,
             inline: Inline::Nothing,
-        };
-    }
-    if a.is_link_local() {
-        return iid_form(a.iid, ll);
-    }
-    Form {
-        mode: 0b000,
-        inline: Inline::Bits128(a.prefix, a.iid),
+        }
+    } else if a.is_link_local() {
+        iid_form(a.iid, ll)
+    } else {
+        Form {
+            mode: 0b000,
+            inline: Inline::Bits128(a.prefix, a.iid),
+        }
     }
 }
 
@@ -155,6 +149,7 @@ fn is_scoped(a: Ipv6Addr, below: u64) -> bool
     a.prefix % 0x1_0000_0000_0000 == 0 && a.iid < below
 }
 
+#[tactic(auto, unfolding(crate::specs::Emit::multicast_form))]
 fn multicast_form(a: Ipv6Addr) -> Form
     ensures { result ≡ multicast_form a }
 {
@@ -162,43 +157,43 @@ fn multicast_form(a: Ipv6Addr) -> Form
     let iid = a.iid;
     let scope = prefix / 0x1_0000_0000_0000 % 256;
     if is_group8(a) {
-        return Form {
+        Form {
             mode: 0b1011,
             inline: Inline::Bits8((iid % 0x100) as u8),
-        };
-    }
-    if is_scoped(a, 0x100_0000) {
-        return Form {
+        }
+    } else if is_scoped(a, 0x100_0000) {
+        Form {
             mode: 0b1010,
             inline: Inline::Bits32((scope * 0x100_0000 + iid % 0x100_0000) as u32),
-        };
-    }
-    if is_scoped(a, 0x100_0000_0000) {
-        return Form {
+        }
+    } else if is_scoped(a, 0x100_0000_0000) {
+        Form {
             mode: 0b1001,
             inline: Inline::Bits48(
                 (scope * 0x100 + iid / 0x1_0000_0000 % 0x100) as u16,
                 (iid % 0x1_0000_0000) as u32,
             ),
-        };
-    }
-    Form {
-        mode: 0b1000,
-        inline: Inline::Bits128(prefix, iid),
+        }
+    } else {
+        Form {
+            mode: 0b1000,
+            inline: Inline::Bits128(prefix, iid),
+        }
     }
 }
 
-pub fn dst_form(a: Ipv6Addr, ll: AddressField) -> Form
+#[tactic(auto, unfolding(crate::specs::Emit::dst_form))]
+pub fn dst_form(a: Ipv6Addr, ll: Option<Address>) -> Form
     ensures { result ≡ dst_form a ll }
 {
     if a.is_multicast() {
-        return multicast_form(a);
-    }
-    if a.is_link_local() {
-        return iid_form(a.iid, ll);
-    }
-    Form {
-        mode: 0b0000,
-        inline: Inline::Bits128(a.prefix, a.iid),
+        multicast_form(a)
+    } else if a.is_link_local() {
+        iid_form(a.iid, ll)
+    } else {
+        Form {
+            mode: 0b0000,
+            inline: Inline::Bits128(a.prefix, a.iid),
+        }
     }
 }

@@ -3,10 +3,3 @@
 // A flow label. No more than 20 bits are ever read into one (proofs/Labels.antt).
 #[derive(Clone, Copy)]
 pub struct FlowLabel(pub u32);
-
-// What a header may lack.
-#[derive(Clone, Copy)]
-pub enum LabelField {
-    None,
-    Some(FlowLabel),
-}

@@ -21,6 +21,6 @@ pub mod label;
 mod read;
 
 pub use context::AddressContext;
-pub use header::{Parsed, Repr};
-pub use label::{FlowLabel, LabelField};
+pub use header::Repr;
+pub use label::FlowLabel;
 pub use read::LinkAddresses;

@@ -1,24 +1,24 @@
 // The reader of compressed IPv6 headers, field by field in the order of RFC 6282, 3.
+// Readers take the lent bytes and a reading place, which is handed on by value (a rule of the project).
+// Contexts and link-layer addresses go on beside them, as the definitions of specs/Iphc.antt take them.
+ghost use Rattle.octets.specs.Answers.{of_answer, of_read};
 ghost use Rattle.std.specs.Prelude.{◌≡◌};
-ghost use Rattle.octets.specs.Answers.{of_word, of_byte, of_long};
-ghost use Rattle.iphc.specs.Context.{of_prefix};
 ghost use Rattle.iphc.specs.Iphc.{base_of, base, contexts, labelled, class_and_label, ecn_and_label, class_only};
 ghost use Rattle.iphc.specs.Iphc.{traffic};
-ghost use Rattle.iphc.specs.Iphc.{hop_limit, front_rest, front, link_iid, identifier, prefix_of, prefixed, full};
+ghost use Rattle.iphc.specs.Iphc.{hop_limit, front_rest, front, link_iid, identifier, prefix_of, full};
 ghost use Rattle.iphc.specs.Iphc.{source, group48, group32, group8, multicast, destination, addresses};
-ghost use Rattle.iphc.specs.Answers.{of_contexts, of_traffic, of_front, of_iid, of_addr, of_addresses};
 
-use super::context::{PrefixAnswer, prefix_at};
-use super::label::{FlowLabel, LabelField};
-use ieee802154::addr::{Address, AddressField, Eui64};
-use octets::cursor::{ByteRead, Cursor, LongRead, WideRead, WordRead};
-use octets::field::ByteField;
+use super::context::prefix_at;
+use super::label::FlowLabel;
+use ieee802154::addr::Address;
+use octets::cursor::{Cursor, Read};
 use octets::ipv6::Ipv6Addr;
 use octets::refusal::Refusal;
-use sixlowpan::next::{NextRead, read_next};
+use sixlowpan::next::read_next;
 use sixlowpan::protocol::NextHeader;
 
-// The fields of the first two bytes.
+// The fields of the first two bytes. They stay numbers: the tables of specs/Modes.antt and the widths speak of the
+// bits, and an enum for each would be read and written through the same numbers.
 #[derive(Clone, Copy)]
 pub struct Base {
     pub tf: u8,
@@ -42,16 +42,16 @@ pub struct Contexts {
 // The link-layer addresses of the frame.
 #[derive(Clone, Copy)]
 pub struct LinkAddresses {
-    pub src: AddressField,
-    pub dst: AddressField,
+    pub src: Option<Address>,
+    pub dst: Option<Address>,
 }
 
 // Traffic class and flow label.
 #[derive(Clone, Copy)]
 pub struct Traffic {
-    pub ecn: ByteField,
-    pub dscp: ByteField,
-    pub flow_label: LabelField,
+    pub ecn: Option<u8>,
+    pub dscp: Option<u8>,
+    pub flow_label: Option<FlowLabel>,
 }
 
 // What stands before the addresses.
@@ -69,46 +69,10 @@ pub struct Addresses {
     pub dst: Ipv6Addr,
 }
 
-#[derive(Clone, Copy)]
-pub enum ContextsRead {
-    Field(Contexts, Cursor),
-    Refused(Refusal),
-}
+impl From<u16> for Base {
+    ghost from_gives = { λ v b. b ≡ base_of v };
 
-#[derive(Clone, Copy)]
-pub enum TrafficRead {
-    Field(Traffic, Cursor),
-    Refused(Refusal),
-}
-
-#[derive(Clone, Copy)]
-pub enum FrontRead {
-    Field(Front, Cursor),
-    Refused(Refusal),
-}
-
-#[derive(Clone, Copy)]
-pub enum AddrRead {
-    Field(Ipv6Addr, Cursor),
-    Refused(Refusal),
-}
-
-#[derive(Clone, Copy)]
-pub enum AddressesRead {
-    Field(Addresses, Cursor),
-    Refused(Refusal),
-}
-
-#[derive(Clone, Copy)]
-pub enum IidAnswer {
-    Is(u64),
-    Refused(Refusal),
-}
-
-impl Base {
-    pub fn of(v: u16) -> Base
-        ensures { result ≡ base_of v }
-    {
+    fn from(v: u16) -> Base {
         Base {
             tf: (v / 2048 % 4) as u8,
             nh: (v / 1024 % 2) as u8,
@@ -123,348 +87,287 @@ impl Base {
     }
 }
 
-pub fn read_base(buf: &[u8], c: Cursor) -> WordRead
-    ensures { of_word result ≡ base buf.now c.at }
+#[tactic(auto, unfolding(crate::specs::Iphc::base))]
+pub fn read_base(buf: &[u8], c: Cursor) -> Read<u16>
+    ensures { of_read result ≡ base buf.now c.at }
 {
-    match c.be16(buf) {
-        WordRead::Field(v, d) => {
-            if v / 8192 == 0b011 {
-                WordRead::Field(v, d)
-            } else {
-                WordRead::Refused(Refusal::NotThisHeader)
-            }
-        }
-        WordRead::Refused(e) => WordRead::Refused(e),
+    let (v, d) = c.be16(buf)?;
+    if v / 8192 == 0b011 {
+        Ok((v, d))
+    } else {
+        Err(Refusal::NotThisHeader)
     }
 }
 
-fn read_contexts(buf: &[u8], c: Cursor, cid: u8) -> ContextsRead
-    ensures { of_contexts result ≡ contexts cid buf.now c.at }
+#[tactic(auto, unfolding(crate::specs::Iphc::contexts))]
+fn read_contexts(buf: &[u8], c: Cursor, cid: u8) -> Read<Contexts>
+    ensures { of_read result ≡ contexts cid buf.now c.at }
 {
     if cid == 0 {
-        return ContextsRead::Field(Contexts { src: 0, dst: 0 }, c);
+        return Ok((Contexts { src: 0, dst: 0 }, c));
     }
-    match c.byte(buf) {
-        ByteRead::Field(b, d) => ContextsRead::Field(
-            Contexts {
-                src: b / 16,
-                dst: b % 16,
-            },
-            d,
-        ),
-        ByteRead::Refused(e) => ContextsRead::Refused(e),
-    }
+    let (b, d) = c.byte(buf)?;
+    Ok((
+        Contexts {
+            src: b / 16,
+            dst: b % 16,
+        },
+        d,
+    ))
 }
 
 // The flow label, whose top four bits ended the byte before, and what was read before it.
-fn read_label(buf: &[u8], c: Cursor, high: u8, ecn: ByteField, dscp: ByteField) -> TrafficRead
-    ensures { of_traffic result ≡ labelled high ecn dscp buf.now c.at }
+#[tactic(auto, unfolding(crate::specs::Iphc::labelled))]
+fn read_label(buf: &[u8], c: Cursor, high: u8, ecn: Option<u8>, dscp: Option<u8>) -> Read<Traffic>
+    ensures { of_read result ≡ labelled high ecn dscp buf.now c.at }
 {
-    match c.be16(buf) {
-        WordRead::Field(low, d) => TrafficRead::Field(
-            Traffic {
-                ecn,
-                dscp,
-                flow_label: LabelField::Some(FlowLabel(
-                    (high % 16) as u32 * 0x1_0000 + (low as u32),
-                )),
-            },
-            d,
-        ),
-        WordRead::Refused(e) => TrafficRead::Refused(e),
-    }
+    let (low, d) = c.be16(buf)?;
+    Ok((
+        Traffic {
+            ecn,
+            dscp,
+            flow_label: Some(FlowLabel((high % 16) as u32 * 0x1_0000 + (low as u32))),
+        },
+        d,
+    ))
 }
 
 // Traffic class and flow label: TF = 00.
-fn read_class_and_label(buf: &[u8], c: Cursor) -> TrafficRead
-    ensures { of_traffic result ≡ class_and_label buf.now c.at }
+#[tactic(auto, unfolding(crate::specs::Iphc::class_and_label))]
+fn read_class_and_label(buf: &[u8], c: Cursor) -> Read<Traffic>
+    ensures { of_read result ≡ class_and_label buf.now c.at }
 {
-    match c.byte(buf) {
-        ByteRead::Field(b, d) => match d.byte(buf) {
-            ByteRead::Field(high, e) => read_label(
-                buf,
-                e,
-                high,
-                ByteField::Some(b / 64 * 64),
-                ByteField::Some(b % 64),
-            ),
-            ByteRead::Refused(e) => TrafficRead::Refused(e),
-        },
-        ByteRead::Refused(e) => TrafficRead::Refused(e),
-    }
+    let (b, d) = c.byte(buf)?;
+    let (high, e) = d.byte(buf)?;
+    read_label(buf, e, high, Some(b / 64 * 64), Some(b % 64))
 }
 
 // ECN and flow label: TF = 01.
-fn read_ecn_and_label(buf: &[u8], c: Cursor) -> TrafficRead
-    ensures { of_traffic result ≡ ecn_and_label buf.now c.at }
+#[tactic(auto, unfolding(crate::specs::Iphc::ecn_and_label))]
+fn read_ecn_and_label(buf: &[u8], c: Cursor) -> Read<Traffic>
+    ensures { of_read result ≡ ecn_and_label buf.now c.at }
 {
-    match c.byte(buf) {
-        ByteRead::Field(b, d) => {
-            read_label(buf, d, b, ByteField::Some(b / 64 * 64), ByteField::None)
-        }
-        ByteRead::Refused(e) => TrafficRead::Refused(e),
-    }
+    let (b, d) = c.byte(buf)?;
+    read_label(buf, d, b, Some(b / 64 * 64), None)
 }
 
 // Traffic class: TF = 10.
-fn read_class(buf: &[u8], c: Cursor) -> TrafficRead
-    ensures { of_traffic result ≡ class_only buf.now c.at }
+#[tactic(auto, unfolding(crate::specs::Iphc::class_only))]
+fn read_class(buf: &[u8], c: Cursor) -> Read<Traffic>
+    ensures { of_read result ≡ class_only buf.now c.at }
 {
-    match c.byte(buf) {
-        ByteRead::Field(b, d) => TrafficRead::Field(
-            Traffic {
-                ecn: ByteField::Some(b / 64 * 64),
-                dscp: ByteField::Some(b % 64),
-                flow_label: LabelField::None,
-            },
-            d,
-        ),
-        ByteRead::Refused(e) => TrafficRead::Refused(e),
-    }
-}
-
-fn read_traffic(buf: &[u8], c: Cursor, tf: u8) -> TrafficRead
-    ensures { of_traffic result ≡ traffic tf buf.now c.at }
-{
-    if tf == 0b00 {
-        return read_class_and_label(buf, c);
-    }
-    if tf == 0b01 {
-        return read_ecn_and_label(buf, c);
-    }
-    if tf == 0b10 {
-        return read_class(buf, c);
-    }
-    TrafficRead::Field(
+    let (b, d) = c.byte(buf)?;
+    Ok((
         Traffic {
-            ecn: ByteField::None,
-            dscp: ByteField::None,
-            flow_label: LabelField::None,
+            ecn: Some(b / 64 * 64),
+            dscp: Some(b % 64),
+            flow_label: None,
         },
-        c,
-    )
+        d,
+    ))
 }
 
-fn read_hop_limit(buf: &[u8], c: Cursor, hlim: u8) -> ByteRead
-    ensures { of_byte result ≡ hop_limit hlim buf.now c.at }
+#[tactic(auto, unfolding(crate::specs::Iphc::traffic))]
+fn read_traffic(buf: &[u8], c: Cursor, tf: u8) -> Read<Traffic>
+    ensures { of_read result ≡ traffic tf buf.now c.at }
 {
-    if hlim == 0b00 {
-        return c.byte(buf);
+    match tf {
+        0b00 => read_class_and_label(buf, c),
+        0b01 => read_ecn_and_label(buf, c),
+        0b10 => read_class(buf, c),
+        _ => Ok((
+            Traffic {
+                ecn: None,
+                dscp: None,
+                flow_label: None,
+            },
+            c,
+        )),
     }
-    if hlim == 0b01 {
-        return ByteRead::Field(1, c);
-    }
-    if hlim == 0b10 {
-        return ByteRead::Field(64, c);
-    }
-    ByteRead::Field(255, c)
 }
 
-fn front_rest(buf: &[u8], c: Cursor, b: Base, contexts: Contexts, traffic: Traffic) -> FrontRead
-    ensures { of_front result ≡ front_rest b contexts traffic buf.now c.at }
+#[tactic(auto, unfolding(crate::specs::Iphc::hop_limit))]
+fn read_hop_limit(buf: &[u8], c: Cursor, hlim: u8) -> Read<u8>
+    ensures { of_read result ≡ hop_limit hlim buf.now c.at }
 {
-    match read_next(buf, c, b.nh) {
-        NextRead::Field(next_header, d) => match read_hop_limit(buf, d, b.hlim) {
-            ByteRead::Field(hop_limit, e) => FrontRead::Field(
-                Front {
-                    contexts,
-                    traffic,
-                    next_header,
-                    hop_limit,
-                },
-                e,
-            ),
-            ByteRead::Refused(e) => FrontRead::Refused(e),
-        },
-        NextRead::Refused(e) => FrontRead::Refused(e),
+    match hlim {
+        0b00 => c.byte(buf),
+        0b01 => Ok((1, c)),
+        0b10 => Ok((64, c)),
+        _ => Ok((255, c)),
     }
+}
+
+#[tactic(auto, unfolding(crate::specs::Iphc::front_rest))]
+fn front_rest(buf: &[u8], c: Cursor, b: Base, contexts: Contexts, traffic: Traffic) -> Read<Front>
+    ensures { of_read result ≡ front_rest b contexts traffic buf.now c.at }
+{
+    let (next_header, d) = read_next(buf, c, b.nh)?;
+    let (hop_limit, e) = read_hop_limit(buf, d, b.hlim)?;
+    Ok((
+        Front {
+            contexts,
+            traffic,
+            next_header,
+            hop_limit,
+        },
+        e,
+    ))
 }
 
 // What stands before the addresses.
-pub fn read_front(buf: &[u8], c: Cursor, b: Base) -> FrontRead
-    ensures { of_front result ≡ front b buf.now c.at }
+#[tactic(auto, unfolding(crate::specs::Iphc::front))]
+pub fn read_front(buf: &[u8], c: Cursor, b: Base) -> Read<Front>
+    ensures { of_read result ≡ front b buf.now c.at }
 {
-    match read_contexts(buf, c, b.cid) {
-        ContextsRead::Field(contexts, d) => match read_traffic(buf, d, b.tf) {
-            TrafficRead::Field(traffic, e) => front_rest(buf, e, b, contexts, traffic),
-            TrafficRead::Refused(e) => FrontRead::Refused(e),
-        },
-        ContextsRead::Refused(e) => FrontRead::Refused(e),
-    }
+    let (contexts, d) = read_contexts(buf, c, b.cid)?;
+    let (traffic, e) = read_traffic(buf, d, b.tf)?;
+    front_rest(buf, e, b, contexts, traffic)
 }
 
 // Of the identifier 0000:00ff:fe00:XXXX, the part before XXXX.
 const SHORT_IID: u64 = 0xff_fe00_0000;
 
 // The identifier that an elided address takes from the link-layer address (RFC 6282, 3.2.2).
-fn link_iid(ll: AddressField) -> IidAnswer
-    ensures { of_iid result ≡ link_iid ll }
+fn link_iid(ll: Option<Address>) -> Result<u64, Refusal>
+    ensures { of_answer result ≡ link_iid ll }
 {
-    match ll {
-        AddressField::None => IidAnswer::Refused(Refusal::NoAddress),
-        AddressField::Some(a) => match a {
-            Address::Absent => IidAnswer::Refused(Refusal::NoAddress),
-            Address::Short(x) => IidAnswer::Is(SHORT_IID + (x as u64)),
-            Address::Extended(x) => match Address::Extended(x).as_eui_64() {
-                Eui64::Some(iid) => IidAnswer::Is(iid),
-                Eui64::None => IidAnswer::Refused(Refusal::NoAddress),
-            },
-        },
+    match ll.ok_or(Refusal::NoAddress)? {
+        Address::Absent => Err(Refusal::NoAddress),
+        Address::Short(x) => Ok(SHORT_IID + (x as u64)),
+        Address::Extended(x) => Address::Extended(x).as_eui_64().ok_or(Refusal::NoAddress),
     }
 }
 
 // The identifier of an address whose prefix is elided.
-fn read_identifier(buf: &[u8], c: Cursor, mode: u8, ll: AddressField) -> LongRead
-    ensures { of_long result ≡ identifier mode ll buf.now c.at }
+#[tactic(auto, unfolding(crate::specs::Iphc::identifier))]
+fn read_identifier(buf: &[u8], c: Cursor, mode: u8, ll: Option<Address>) -> Read<u64>
+    ensures { of_read result ≡ identifier mode ll buf.now c.at }
 {
-    if mode == 0b01 {
-        return c.be64(buf);
-    }
-    if mode == 0b10 {
-        return match c.be16(buf) {
-            WordRead::Field(x, d) => LongRead::Field(SHORT_IID + (x as u64), d),
-            WordRead::Refused(e) => LongRead::Refused(e),
-        };
-    }
-    match link_iid(ll) {
-        IidAnswer::Is(iid) => LongRead::Field(iid, c),
-        IidAnswer::Refused(e) => LongRead::Refused(e),
+    match mode {
+        0b01 => c.be64(buf),
+        0b10 => {
+            let (x, d) = c.be16(buf)?;
+            Ok((SHORT_IID + (x as u64), d))
+        }
+        _ => Ok((link_iid(ll)?, c)),
     }
 }
 
 // All 128 bits of an address.
-fn read_full(buf: &[u8], c: Cursor) -> AddrRead
-    ensures { of_addr result ≡ full buf.now c.at }
+#[tactic(auto, unfolding(crate::specs::Iphc::full))]
+fn read_full(buf: &[u8], c: Cursor) -> Read<Ipv6Addr>
+    ensures { of_read result ≡ full buf.now c.at }
 {
-    match c.be64(buf) {
-        LongRead::Field(prefix, d) => match d.be64(buf) {
-            LongRead::Field(iid, e) => AddrRead::Field(Ipv6Addr { prefix, iid }, e),
-            LongRead::Refused(e) => AddrRead::Refused(e),
-        },
-        LongRead::Refused(e) => AddrRead::Refused(e),
-    }
+    let (prefix, d) = c.be64(buf)?;
+    let (iid, e) = d.be64(buf)?;
+    Ok((Ipv6Addr { prefix, iid }, e))
 }
 
 // The prefix fe80::/64, or that of a context.
-fn prefix_of(contexts: &[u8], ac: u8, id: u8) -> PrefixAnswer
-    ensures { of_prefix result ≡ prefix_of contexts.now ac id }
+#[tactic(auto, unfolding(crate::specs::Iphc::prefix_of))]
+fn prefix_of(contexts: &[u8], ac: u8, id: u8) -> Result<u64, Refusal>
+    ensures { of_answer result ≡ prefix_of contexts.now ac id }
 {
     if ac == 0 {
-        PrefixAnswer::Is(Ipv6Addr::LINK_LOCAL)
+        Ok(Ipv6Addr::LINK_LOCAL)
     } else {
         prefix_at(contexts, id)
     }
 }
 
-// An address whose prefix is elided. Its identifier was read first: 6 or 1 comes before 5.
-fn with_prefix(i: LongRead, contexts: &[u8], ac: u8, id: u8) -> AddrRead
-    ensures { of_addr result ≡ prefixed contexts.now ac id (of_long i) }
-{
-    match i {
-        LongRead::Field(iid, d) => match prefix_of(contexts, ac, id) {
-            PrefixAnswer::Is(prefix) => AddrRead::Field(Ipv6Addr { prefix, iid }, d),
-            PrefixAnswer::Refused(e) => AddrRead::Refused(e),
-        },
-        LongRead::Refused(e) => AddrRead::Refused(e),
-    }
-}
-
+// (Identifier and link-layer address are those of one side, here and below: so they come apart, not as the pairs.)
+#[tactic(auto, unfolding(crate::specs::Iphc::source, crate::specs::Iphc::elided))]
 fn read_source(
     buf: &[u8],
     c: Cursor,
     contexts: &[u8],
     b: Base,
     id: u8,
-    ll: AddressField,
-) -> AddrRead
-    ensures { of_addr result
+    ll: Option<Address>,
+) -> Read<Ipv6Addr>
+    ensures { of_read result
         ≡ source contexts.now b.sac b.sam id ll buf.now c.at }
 {
     if b.sam == 0b00 {
         if b.sac == 0 {
             return read_full(buf, c);
         }
-        return AddrRead::Field(Ipv6Addr::UNSPECIFIED, c);
+        return Ok((Ipv6Addr::UNSPECIFIED, c));
     }
-    let i = read_identifier(buf, c, b.sam, ll);
-    with_prefix(i, contexts, b.sac, id)
+    let (iid, d) = read_identifier(buf, c, b.sam, ll)?;
+    let prefix = prefix_of(contexts, b.sac, id)?;
+    Ok((Ipv6Addr { prefix, iid }, d))
 }
 
 // A group ffXX::00XX:XXXX:XXXX.
-fn read_group48(buf: &[u8], c: Cursor) -> AddrRead
-    ensures { of_addr result ≡ group48 buf.now c.at }
+#[tactic(auto, unfolding(crate::specs::Iphc::group48))]
+fn read_group48(buf: &[u8], c: Cursor) -> Read<Ipv6Addr>
+    ensures { of_read result ≡ group48 buf.now c.at }
 {
-    match c.be16(buf) {
-        WordRead::Field(x, d) => match d.be32(buf) {
-            WideRead::Field(y, e) => AddrRead::Field(
-                Ipv6Addr {
-                    prefix: (0xff00 + (x / 256) as u64) * 0x1_0000_0000_0000,
-                    iid: (x % 256) as u64 * 0x1_0000_0000 + (y as u64),
-                },
-                e,
-            ),
-            WideRead::Refused(e) => AddrRead::Refused(e),
+    let (x, d) = c.be16(buf)?;
+    let (y, e) = d.be32(buf)?;
+    Ok((
+        Ipv6Addr {
+            prefix: (0xff00 + (x / 256) as u64) * 0x1_0000_0000_0000,
+            iid: (x % 256) as u64 * 0x1_0000_0000 + (y as u64),
         },
-        WordRead::Refused(e) => AddrRead::Refused(e),
-    }
+        e,
+    ))
 }
 
 // A group ffXX::00XX:XXXX.
-fn read_group32(buf: &[u8], c: Cursor) -> AddrRead
-    ensures { of_addr result ≡ group32 buf.now c.at }
+#[tactic(auto, unfolding(crate::specs::Iphc::group32))]
+fn read_group32(buf: &[u8], c: Cursor) -> Read<Ipv6Addr>
+    ensures { of_read result ≡ group32 buf.now c.at }
 {
-    match c.be32(buf) {
-        WideRead::Field(x, d) => AddrRead::Field(
-            Ipv6Addr {
-                prefix: (0xff00 + (x / 0x100_0000) as u64) * 0x1_0000_0000_0000,
-                iid: (x % 0x100_0000) as u64,
-            },
-            d,
-        ),
-        WideRead::Refused(e) => AddrRead::Refused(e),
-    }
+    let (x, d) = c.be32(buf)?;
+    Ok((
+        Ipv6Addr {
+            prefix: (0xff00 + (x / 0x100_0000) as u64) * 0x1_0000_0000_0000,
+            iid: (x % 0x100_0000) as u64,
+        },
+        d,
+    ))
 }
 
 // A group ff02::00XX.
-fn read_group8(buf: &[u8], c: Cursor) -> AddrRead
-    ensures { of_addr result ≡ group8 buf.now c.at }
+#[tactic(auto, unfolding(crate::specs::Iphc::group8))]
+fn read_group8(buf: &[u8], c: Cursor) -> Read<Ipv6Addr>
+    ensures { of_read result ≡ group8 buf.now c.at }
 {
-    match c.byte(buf) {
-        ByteRead::Field(x, d) => AddrRead::Field(
-            Ipv6Addr {
-                prefix: 0xff02_0000_0000_0000,
-                iid: x as u64,
-            },
-            d,
-        ),
-        ByteRead::Refused(e) => AddrRead::Refused(e),
+    let (x, d) = c.byte(buf)?;
+    Ok((
+        Ipv6Addr {
+            prefix: 0xff02_0000_0000_0000,
+            iid: x as u64,
+        },
+        d,
+    ))
+}
+
+#[tactic(auto, unfolding(crate::specs::Iphc::multicast))]
+fn read_multicast(buf: &[u8], c: Cursor, dam: u8) -> Read<Ipv6Addr>
+    ensures { of_read result ≡ multicast dam buf.now c.at }
+{
+    match dam {
+        0b00 => read_full(buf, c),
+        0b01 => read_group48(buf, c),
+        0b10 => read_group32(buf, c),
+        _ => read_group8(buf, c),
     }
 }
 
-fn read_multicast(buf: &[u8], c: Cursor, dam: u8) -> AddrRead
-    ensures { of_addr result ≡ multicast dam buf.now c.at }
-{
-    if dam == 0b00 {
-        return read_full(buf, c);
-    }
-    if dam == 0b01 {
-        return read_group48(buf, c);
-    }
-    if dam == 0b10 {
-        return read_group32(buf, c);
-    }
-    read_group8(buf, c)
-}
-
+#[tactic(auto, unfolding(crate::specs::Iphc::destination, crate::specs::Iphc::elided))]
 fn read_destination(
     buf: &[u8],
     c: Cursor,
     contexts: &[u8],
     b: Base,
     id: u8,
-    ll: AddressField,
-) -> AddrRead
-    ensures { of_addr result
+    ll: Option<Address>,
+) -> Read<Ipv6Addr>
+    ensures { of_read result
         ≡ destination contexts.now b.m b.dac b.dam id ll buf.now c.at }
 {
     let dam = b.dam;
@@ -473,17 +376,19 @@ fn read_destination(
             if b.dac == 0 {
                 return read_full(buf, c);
             }
-            return AddrRead::Refused(Refusal::Unsupported);
+            return Err(Refusal::Unsupported);
         }
-        let i = read_identifier(buf, c, dam, ll);
-        return with_prefix(i, contexts, b.dac, id);
+        let (iid, d) = read_identifier(buf, c, dam, ll)?;
+        let prefix = prefix_of(contexts, b.dac, id)?;
+        return Ok((Ipv6Addr { prefix, iid }, d));
     }
     if b.dac == 0 {
         return read_multicast(buf, c, dam);
     }
-    AddrRead::Refused(Refusal::Unsupported)
+    Err(Refusal::Unsupported)
 }
 
+#[tactic(auto, unfolding(crate::specs::Iphc::addresses))]
 pub fn read_addresses(
     buf: &[u8],
     c: Cursor,
@@ -491,17 +396,11 @@ pub fn read_addresses(
     b: Base,
     ids: Contexts,
     ll: LinkAddresses,
-) -> AddressesRead
-    ensures { of_addresses result
+) -> Read<Addresses>
+    ensures { of_read result
         ≡ addresses contexts.now b ids ll.src ll.dst buf.now c.at }
 {
-    let ll_src = ll.src;
-    let ll_dst = ll.dst;
-    match read_source(buf, c, contexts, b, ids.src, ll_src) {
-        AddrRead::Field(src, d) => match read_destination(buf, d, contexts, b, ids.dst, ll_dst) {
-            AddrRead::Field(dst, e) => AddressesRead::Field(Addresses { src, dst }, e),
-            AddrRead::Refused(e) => AddressesRead::Refused(e),
-        },
-        AddrRead::Refused(e) => AddressesRead::Refused(e),
-    }
+    let (src, d) = read_source(buf, c, contexts, b, ids.src, ll.src)?;
+    let (dst, e) = read_destination(buf, d, contexts, b, ids.dst, ll.dst)?;
+    Ok((Addresses { src, dst }, e))
 }

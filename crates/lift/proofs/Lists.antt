@@ -1,4 +1,5 @@
 -- The gateway list as numbers, and what `words::begin` makes of it.
+use Rattle.std.specs.Prelude.{Result, Ok, Err}
 use Prim.Native.Nat.{ℕ, zero, suc, ◌+◌, ◌*◌, ◌/◌, ◌%◌, ◌≤◌, ◌<◌}
 use native.Mathlib.Omega.{arith}
 use mathlib.Core.Path.{◌≡◌, refl, sym, ap, ◌∙◌}
@@ -10,7 +11,6 @@ use Rattle.octets.specs.Refusal.{number_of}
 use Rattle.octets.specs.declared.refusal.Refusal.{Refusal}
 use Rattle.reassembly.specs.Fresh.{gate_of, sources, refused_list, fresh, made, Gateways, Begins}
 use Rattle.reassembly.specs.declared.table.Table.{Table}
-use Rattle.reassembly.specs.declared.table.Listed.{Listed}
 use Rattle.reassembly.specs.declared.table.Gateway.{Gateway}
 use Rattle.reassembly.proofs.Tests.{by-test, by_order}
 use Rattle.reassembly.proofs.Fresh.{accepted, sources-are, refuses-long, not-long, when-fit, when-accepted, when-refused}
@@ -64,15 +64,15 @@ module _ (l : List ℕ) (four-of : List Gateway) (n : ℕ) (are : four-of ≡ ga
       by_order n 4 (λ h. rw (same-sources h) (ap (λ z. refused_list z (gateways l)) many))
       (λ h. refuses-long n (sources n four-of) h ∙ sym (rw (sym many) (refuses-long n (gateways l) h)))
 
-  module _ (t x : Table) (y : Listed) (b : Begins y t x n four-of) where
-    pub begun-list : y ≡ Listed.Accepted → (0 ≡ list_answer l) × (x ≡ table_begun t l)
+  module _ (t x : Table) (y : Result (Unit {0}) Refusal) (b : Begins y t x n four-of) where
+    pub begun-list : y ≡ (Ok tt) → (0 ≡ list_answer l) × (x ≡ table_begun t l)
     unfolding list_answer table_begun
     begun-list e =
         let h = when-accepted n four-of y b.answer e in
         let k : refuses_list l ≡ false = sym same-refusal ∙ h in
         (rw k refl, rw k (when-fit n four-of y t x b h ∙ ap fresh (same-sources (not-long n (sources n four-of) h))))
 
-    pub refused-list : (r : Refusal) → y ≡ Listed.Refused r → (j : ℕ) → j ≡ number_of r → (j ≡ list_answer l) × (x ≡ table_begun t l)
+    pub refused-list : (r : Refusal) → y ≡ Err r → (j : ℕ) → j ≡ number_of r → (j ≡ list_answer l) × (x ≡ table_begun t l)
     unfolding list_answer table_begun made
     refused-list r e j q =
         let h = when-refused n four-of y b.answer r e in
@@ -92,3 +92,6 @@ unfolding list_answer table_begun
 begun_fresh l e = by-test (refuses_list l)
     (λ k. let z : ◌≡◌ {A = ℕ} 14 0 = rw k at e in absurd (omega (arith, z)))
     (λ k. (λ t. rw k refl, fit-list l k))
+
+-- ---- what the check takes from here
+pub ruleset at_told = (at_in, at_out)

@@ -1,9 +1,9 @@
 -- What crosses the boundary to C, as numbers: answers and gateways.
-use Rattle.std.specs.Prelude.{ℕ, ◌+◌, ◌-◌, ◌/◌, ◌%◌, ◌≤◌, ◌≡◌, Bool, List, [], ◌∷◌, map, length, get_or, eqb, ltb, leb}
+use Rattle.ieee802154.specs.declared.addr.Pan.{Pan}
+use Rattle.std.specs.Prelude.{ℕ, ◌+◌, ◌-◌, ◌/◌, ◌%◌, ◌≤◌, ◌≡◌, Bool, List, [], ◌∷◌, map, length, get_or, eqb, ltb, leb, Option, Some, None}
 use Rattle.octets.specs.Read.{choose}
 use Rattle.ieee802154.specs.declared.addr.Address.{Address}
 use Rattle.ieee802154.specs.declared.addr.Address.TheVariants.{Absent, Short, Extended}
-use Rattle.ieee802154.specs.declared.addr.PanField.{PanField}
 use Rattle.reassembly.specs.Parts.{Reply, kept, out, refused, told, output_after}
 use Rattle.reassembly.specs.Table.{Result, step}
 use Rattle.reassembly.specs.Fresh.{gate_of, refused_list, fresh}
@@ -30,12 +30,12 @@ unfoldable pub address_of : ℕ → ℕ → Address
 address_of k n = choose (eqb k 1) (choose (ltb n 65536) (Short n) Absent) (choose (eqb k 2) (Extended n) Absent)
 
 -- a PAN as one number: 0 is none, and every PAN one more than its identifier
-unfoldable pub pan_from : ℕ → PanField
-pan_from n = choose (eqb n 0) PanField.None (PanField.Some (record { 0 = n - 1 }))
+unfoldable pub pan_from : ℕ → Option Pan
+pan_from n = choose (eqb n 0) None (Some (record { 0 = n - 1 }))
 
 -- no gateway: an absent address
 abbrev pub no_gateway : Gateway
-no_gateway = record { addr = Absent; pan = PanField.None }
+no_gateway = record { addr = Absent; pan = None }
 
 -- a gateway as two numbers: its PAN in the first, from bit 16 on, over the kind of its address; then the address
 unfoldable pub gateway_of : ℕ → ℕ → Gateway

@@ -18,8 +18,9 @@ ghost use Rattle.words.specs.Words.{table_in};
 ghost use Rattle.lift.specs.Face.{packed, InHalf, address_of, pan_from, gateway_of, gateway_at, list_answer};
 ghost use Rattle.lift.specs.Face.{table_begun, received, Answers};
 
-use ieee802154::{Address, Pan, PanField};
-use reassembly::{Gateway, Listed, Outcome, Source};
+use ieee802154::{Address, Pan};
+use octets::refusal::Refusal;
+use reassembly::{Gateway, Outcome, Source};
 use receiver::receive;
 use words::WORDS;
 
@@ -29,49 +30,58 @@ pub(crate) const OUT: u32 = 65536;
 
 pub(crate) const REFUSED: u32 = 131072;
 
+// A kind and a number, as C has them (include/lift.h).
+#[tactic(auto, unfolding(crate::specs::Face::address_of))]
 fn address_of(kind: u64, number: u64) -> Address
     ensures { result ≡ address_of kind number }
 {
-    if kind == 1 {
-        if number < 65536 {
-            return Address::Short(number as u16);
-        }
-        return Address::Absent;
+    match kind {
+        1 if number < 65536 => Address::Short(number as u16),
+        2 => Address::Extended(number),
+        _ => Address::Absent,
     }
-    if kind == 2 {
-        return Address::Extended(number);
-    }
-    Address::Absent
 }
 
 // A PAN that crosses as one number: 0 is none, and every PAN one more than its identifier.
-fn pan_from(n: u64) -> PanField
+// (No `From`: it takes no number above 65,536.)
+#[tactic(auto, unfolding(crate::specs::Face::pan_from))]
+fn pan_from(n: u64) -> Option<Pan>
     requires { n ≤ 65536 }
     ensures { result ≡ pan_from n }
 {
     if n == 0 {
-        return PanField::None;
+        None
+    } else {
+        Some(Pan((n - 1) as u16))
     }
-    PanField::Some(Pan((n - 1) as u16))
 }
 
+// No gateway: an absent address.
+const NO_GATEWAY: Gateway = Gateway {
+    addr: Address::Absent,
+    pan: None,
+};
+
 // A gateway that crosses as two numbers: the first is its PAN, from bit 16 on, and the kind of its address.
+// (Two numbers, as C has them: include/lift.h.)
+#[tactic(auto, unfolding(crate::specs::Face::gateway_of))]
 fn gateway_of(kind: u64, number: u64) -> Gateway
     ensures { result ≡ gateway_of kind number }
 {
     let high = kind / 65536;
     if high <= 65536 {
-        let addr = address_of(kind % 65536, number);
-        let pan = pan_from(high);
-        return Gateway { addr, pan };
-    }
-    Gateway {
-        addr: Address::Absent,
-        pan: PanField::None,
+        Gateway {
+            addr: address_of(kind % 65536, number),
+            pan: pan_from(high),
+        }
+    } else {
+        NO_GATEWAY
     }
 }
 
 // The i-th gateway of a list of two numbers each; none, an absent address, where there is no such.
+// (The bound is that of an index.)
+#[tactic(auto, using(crate::proofs::Lists::at_told))]
 fn gateway_at(gateways: &[u64], i: usize) -> Gateway
     requires { i < 4 }
     ensures { result ≡ gateway_at gateways.now i }
@@ -79,22 +89,21 @@ fn gateway_at(gateways: &[u64], i: usize) -> Gateway
     let k = i * 2;
     let n = k + 1;
     if n < gateways.len() {
-        return gateway_of(gateways[k], gateways[n]);
-    }
-    Gateway {
-        addr: Address::Absent,
-        pan: PanField::None,
+        gateway_of(gateways[k], gateways[n])
+    } else {
+        NO_GATEWAY
     }
 }
 
-fn pack(o: Outcome) -> u32
-    requires { InHalf (of_outcome o) }
-    ensures { result ≡ packed (of_outcome o) }
+// (No `From`: that a length is below 65,536 is asked.)
+fn pack(answer: Result<Outcome, Refusal>) -> u32
+    requires { InHalf (of_outcome answer) }
+    ensures { result ≡ packed (of_outcome answer) }
 {
-    match o {
-        Outcome::Kept => 0,
-        Outcome::Out(n) => OUT + (n as u32),
-        Outcome::Refused(e) => REFUSED + (e.number() as u32),
+    match answer {
+        Ok(Outcome::Kept) => 0,
+        Ok(Outcome::Out(n)) => OUT + (n as u32),
+        Err(e) => REFUSED + (e.number() as u32),
     }
 }
 
@@ -111,8 +120,8 @@ pub extern "C" fn lift_begin_flat(t: &mut [u64; WORDS], gateways: &[u64]) -> u32
     let d = gateway_at(gateways, 3);
     let count = gateways.len() / 2 + gateways.len() % 2;
     match words::begin(t, [a, b, c, d], count) {
-        Listed::Accepted => 0,
-        Listed::Refused(e) => e.number() as u32,
+        Ok(()) => 0,
+        Err(e) => e.number() as u32,
     }
 }
 
@@ -131,8 +140,7 @@ pub extern "C" fn lift_receive(
         (received (table_in t.old) time frame.now contexts.now mem.old
         out.old) }
 {
-    let outcome = receive(t, time, frame, contexts, mem, out);
-    pack(outcome)
+    pack(receive(t, time, frame, contexts, mem, out))
 }
 
 // How many slots are free.
@@ -144,12 +152,11 @@ pub extern "C" fn lift_free(t: &[u64; WORDS]) -> usize
 }
 
 // How many slots the gateway of this kind and number holds.
+// (As C has them: include/lift.h.)
 #[unsafe(no_mangle)]
 pub extern "C" fn lift_held(t: &[u64; WORDS], kind: u64, number: u64) -> usize
     ensures { result ≡ held (gate_of (gateway_of kind number)) (table_in t.now).slots }
 {
     let g = gateway_of(kind, number);
-    let addr = g.addr;
-    let pan = g.pan;
-    words::count_held(t, Source::of(addr, pan))
+    words::count_held(t, Source::of(g.addr, g.pan))
 }

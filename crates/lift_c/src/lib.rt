@@ -1,5 +1,6 @@
 // The library for C and Rust to link (include/lift.h): the calls of crate `lift`, exported under their names. Each has
 // the contract of the call behind it, and does nothing else.
+// Flat lists, numbers for kinds and one number for an answer: as C has them (include/lift.h).
 #![tactic(auto)]
 
 ghost use Rattle.std.specs.Prelude.{◌≡◌};

@@ -1,4 +1,5 @@
 -- The scope document's printed example: one block with two frames at time 0, and its three lines.
+use Rattle.std.specs.Prelude.{Some}
 use Rattle.std.proofs.Common.{◌≡◌, ℕ, zero, suc, ◌+◌, ◌/◌, ◌<◌, ◌≤◌, true, false, List, [], ◌∷◌, ◌++◌, length, get_or, take, replicate, sym, refl, ap, ◌∙◌, arith, le-ltb}
 use lib.ListN.{length-replicate}
 use lib.Seq.{take-length}
@@ -27,7 +28,6 @@ use Rattle.reassembly.specs.Parts as Parts
 use Rattle.reassembly.specs.Parts.{Reply, output_after}
 use Rattle.reassembly.specs.Table.{Call, State, Result, from, slots_at, aged, with_slots, pass, from_gate, take_part, step, lent_call}
 use Rattle.reassembly.specs.Fresh.{gate_of, seats, fresh}
-use Rattle.ieee802154.specs.declared.addr.PanField.{PanField}
 use Rattle.receiver.specs.Receive.{key_of, content, brings, frame_call, call_of, tested}
 use Rattle.listen.specs.Lines.{width_in, decimal}
 use Rattle.capture.specs.File.{pieces, blocks_of, joined}
@@ -52,7 +52,7 @@ handed =
     ∷ 0x01 ∷ 0x02 ∷ 0x03 ∷ 0x04 ∷ []
 
 abbrev arrives : ℕ → Arrival
-arrives n = record { src = Short n; pan = PanField.Some (record { 0 = 0xabcd }); dst = Short 0xffff; payload = record { at = 9 } }
+arrives n = record { src = Short n; pan = Some (record { 0 = 0xabcd }); dst = Short 0xffff; payload = record { at = 9 } }
 
 arrived : (arrival (frame_from 0x01 0x00).frame ≡ is (arrives 1)) × (arrival (frame_from 0x34 0x12).frame ≡ is (arrives 0x1234))
 unfolding arrival framed relay mesh_field broadcast_field mac header byte le16 sequence header_rest after_control supported says_elements omits_sequence addressing has_addressing sides side carried carried01 pan_field address_field auxiliary repr_of sequence_of has_sequence

@@ -1,23 +1,22 @@
 -- A block's frames, one turn of the loop at a time: what is done, with what is left to do, is all.
+use Rattle.std.specs.Prelude.{Result, Ok, Err}
 use Rattle.std.proofs.Common.{◌≡◌, ℕ, ◌+◌, ◌<◌, ◌≤◌, Bool, true, false, leb, List, [], ◌∷◌, length, drop, sym, refl, ap, ◌∙◌, ap₂, add-one, arith, drop_of_length-le, drop-cons}
 use Rattle.octets.specs.Read.{choose}
 use Rattle.octets.specs.declared.refusal.Refusal.{Refusal}
 use Rattle.octets.specs.Write.{put}
 use Rattle.text.specs.Text.{Printed}
-use Rattle.capture.specs.Block.{Timed, count_of, time_of, frame_of, timed_of, frames_of, good_block, judged, of_judged}
-use Rattle.capture.specs.declared.block.Judged.{Judged}
+use Rattle.capture.specs.Block.{Timed, count_of, time_of, frame_of, timed_of, frames_of, good_block, judged}
+use Rattle.octets.specs.Answers.{of_answer}
 use Rattle.capture.specs.Made.{no_frame}
 use Rattle.capture.proofs.Exact.{frames-length, frames-at}
 use Rattle.capture.proofs.Unique.{told-good, told-bad}
 use Rattle.reassembly.specs.Lists.{count}
 use Rattle.reassembly.specs.Slots.{same_node, same_source, addressed, present}
-use Rattle.reassembly.specs.Parts.{of_outcome}
+use Rattle.reassembly.specs.Parts.{Answered, of_outcome}
 use Rattle.reassembly.specs.Table.{Received, step, Gives}
 use Rattle.reassembly.specs.Fresh.{fresh, sources, unfit, refused_list, Begins}
 use Rattle.reassembly.proofs.Fresh.{sources-are, when-fit}
-use Rattle.reassembly.specs.declared.table.Listed.{Listed}
 use Rattle.reassembly.specs.declared.table.Table.{Table}
-use Rattle.reassembly.specs.declared.part.Outcome.{Outcome}
 use Rattle.words.specs.Words.{table_in}
 use Rattle.receiver.specs.Receive.{call_of}
 use Rattle.listen.specs.Lines.{frame_line, bad_line, Page, put_line, put_lines}
@@ -70,7 +69,7 @@ rest s k h =
     let l : k < length (frames_of s) = omega (arith, frames-length s) in
     drop-cons (frames_of s) k no_frame l ∙ ap₂ (λ f j. f ∷ drop j (frames_of s)) (frames-at s k h) (sym (add-one k))
 
-module _ (s : List ℕ) (k : ℕ) (x₀ : Listener) (e : Ear) (m o : List ℕ) (p₀ : Page) (was : List ℕ) (at : ℕ) (y : Outcome) (w m' o' : List ℕ) (t : ℕ) (f : List ℕ) (n : ℕ) (room : List ℕ) (to : ℕ) where
+module _ (s : List ℕ) (k : ℕ) (x₀ : Listener) (e : Ear) (m o : List ℕ) (p₀ : Page) (was : List ℕ) (at : ℕ) (y : Answered) (w m' o' : List ℕ) (t : ℕ) (f : List ℕ) (n : ℕ) (room : List ℕ) (to : ℕ) where
   pub turn : Going s k x₀ (listener e m o) p₀ (page was at) → k < count_of s → t ≡ time_of k s → f ≡ frame_of k s
       → Gives (record { answer = y; table = table_in w }) m' o o' (step (record { table = table_in e.table; mem = m }) (call_of m o [] t f))
       → n ≡ next e.frames → Printed at (frame_line n (of_outcome y)) was room to
@@ -97,7 +96,7 @@ gone s k x₀ x p₀ p g h =
 
 -- ---- a block
 -- the frames heard, the next block is due
-pub heard-good : (x : Listener) (s : List ℕ) (j : Judged) (n : ℕ) (r : Heard) (m o was room : List ℕ) (at b : ℕ) → of_judged j ≡ judged x.ear.block s → j ≡ Judged.Good n
+pub heard-good : (x : Listener) (s : List ℕ) (j : Result ℕ Refusal) (n : ℕ) (r : Heard) (m o was room : List ℕ) (at b : ℕ) → of_answer j ≡ judged x.ear.block s → j ≡ Ok n
     → Hears r m o was room at (record { after = after_frames x (frames_of s); said = said_of_all x (frames_of s); more = true }) → b ≡ next r.ear.block
     → Hears (record { ear = record { table = r.ear.table; frames = r.ear.frames; block = b }; more = true; next = r.next }) m o was room at (hear_block x s)
 unfolding hear_block
@@ -108,7 +107,7 @@ heard-good x s j n r m o was room at b p q h e =
     ∙ ap (λ (y : Standing). record { table = y.table; frames = y.frames; block = next y.block }) h.ear in
     rw g (record { ear = w; memory = h.memory; output = h.output; more = refl; text = h.text })
 
-pub heard-bad : (e : Ear) (m o : List ℕ) (s : List ℕ) (j : Judged) (a : Refusal) (was room : List ℕ) (at to : ℕ) → of_judged j ≡ judged e.block s → j ≡ Judged.Refused a
+pub heard-bad : (e : Ear) (m o : List ℕ) (s : List ℕ) (j : Result ℕ Refusal) (a : Refusal) (was room : List ℕ) (at to : ℕ) → of_answer j ≡ judged e.block s → j ≡ Err a
     → Printed at (bad_line e.block) was room to
     → Hears (record { ear = e; more = false; next = to }) m o was room at (hear_block (listener e m o) s)
 unfolding hear_block put_lines
@@ -122,6 +121,6 @@ four-fit : refused_list 4 (sources 4 gateways) ≡ false
 unfolding refused_list sources unfit same_source same_node present addressed count
 four-fit = refl
 
-pub begins : (y : Listed) (t x : Table) → Begins y t x 4 gateways → record { table = x; frames = 0; block = 0 } ≡ starting
+pub begins : (y : Result (Unit {0}) Refusal) (t x : Table) → Begins y t x 4 gateways → record { table = x; frames = 0; block = 0 } ≡ starting
 unfolding starting
 begins y t x b = ap (λ (z : Table). record { table = z; frames = 0; block = 0 }) (when-fit 4 gateways y t x b four-fit ∙ ap fresh (sources-are 4 gateways))

@@ -5,7 +5,8 @@ use Rattle.expand.proofs.CopyLaws.{put-inside, length-put}
 use Rattle.text.specs.Text.{Printed, Decimal}
 use Rattle.octets.specs.Refusal.{number_of}
 use Rattle.octets.specs.declared.refusal.Refusal.{Refusal}
-use Rattle.reassembly.specs.Parts.{of_outcome}
+use Rattle.std.specs.Prelude.{Ok, Err}
+use Rattle.reassembly.specs.Parts.{Answered, of_outcome}
 use Rattle.reassembly.specs.declared.part.Outcome.{Outcome}
 use Rattle.listen.specs.Lines.{decimal, newline, out_word, kept_word, no_word, frame_line}
 use Rattle.listen.proofs.Decimals.{decimal-small, decimal-printed}
@@ -59,11 +60,11 @@ two-numbers word r₀ r₁ r₂ r₃ r₄ n x a b c d h l i k p q r s =
     rw (append_assoc (decimal n ++ word) (decimal x) newline, append_assoc (decimal n) word (decimal x ++ newline)) at D
 
 -- ---- what a frame came to, by the case that a match found
-pub kept-told : (at n next : ℕ) (was room : List ℕ) (r : Outcome) → r ≡ Outcome.Kept → Printed at (decimal n ++ (kept_word ++ newline)) was room next → Printed at (frame_line n (of_outcome r)) was room next
+pub kept-told : (at n next : ℕ) (was room : List ℕ) (r : Answered) → r ≡ Ok Outcome.Kept → Printed at (decimal n ++ (kept_word ++ newline)) was room next → Printed at (frame_line n (of_outcome r)) was room next
 kept-told at n next was room r e h = rw e h
 
-pub out-told : (at n next l : ℕ) (was room : List ℕ) (r : Outcome) → r ≡ Outcome.Out l → Printed at (decimal n ++ (out_word ++ (decimal l ++ newline))) was room next → Printed at (frame_line n (of_outcome r)) was room next
+pub out-told : (at n next l : ℕ) (was room : List ℕ) (r : Answered) → r ≡ Ok (Outcome.Out l) → Printed at (decimal n ++ (out_word ++ (decimal l ++ newline))) was room next → Printed at (frame_line n (of_outcome r)) was room next
 out-told at n next l was room r e h = rw e h
 
-pub refused-told : (at n next x : ℕ) (was room : List ℕ) (why : Refusal) (r : Outcome) → r ≡ Outcome.Refused why → x ≡ number_of why → Printed at (decimal n ++ (no_word ++ (decimal x ++ newline))) was room next → Printed at (frame_line n (of_outcome r)) was room next
+pub refused-told : (at n next x : ℕ) (was room : List ℕ) (why : Refusal) (r : Answered) → r ≡ Err why → x ≡ number_of why → Printed at (decimal n ++ (no_word ++ (decimal x ++ newline))) was room next → Printed at (frame_line n (of_outcome r)) was room next
 refused-told at n next x was room why r e f h = rw (e, ← f) h

@@ -1,8 +1,7 @@
 -- What a capture says (the scope document, "Capture blocks and the program"): its blocks in order from number 0, the frames of each good one
 -- given to the receiver at their times, a line for each frame, and a last line.
-use Rattle.std.specs.Prelude.{◌≡◌, ℕ, ◌+◌, ◌%◌, ◌^◌, Bool, true, false, List, [], ◌∷◌, ◌++◌, replicate}
+use Rattle.std.specs.Prelude.{◌≡◌, ℕ, ◌+◌, ◌%◌, ◌^◌, Bool, true, false, List, [], ◌∷◌, ◌++◌, replicate, Some}
 use Rattle.octets.specs.Read.{choose}
-use Rattle.ieee802154.specs.declared.addr.PanField.{PanField}
 use Rattle.ieee802154.specs.declared.addr.Address.TheVariants.{Short}
 use Rattle.capture.specs.Block.{Timed, frames_of, good_block}
 use Rattle.capture.specs.File.{blocks_of, joined}
@@ -87,7 +86,7 @@ hear_block x s =
 -- ---- a capture
 -- the gateways: short 0001 to 0004, under PAN abcd
 abbrev pub listed_as : ℕ → Gateway
-listed_as a = record { addr = Short a; pan = PanField.Some (record { 0 = 0xabcd }) }
+listed_as a = record { addr = Short a; pan = Some (record { 0 = 0xabcd }) }
 
 abbrev pub gateways : List Gateway
 gateways = listed_as 0x0001 ∷ listed_as 0x0002 ∷ listed_as 0x0003 ∷ listed_as 0x0004 ∷ []

@@ -1,10 +1,10 @@
 // Who listens to a capture, block by block (the scope document, "Capture blocks and the program").
-ghost use Rattle.std.specs.Prelude.{◌≡◌, ◌-◌, take, drop};
+ghost use Rattle.std.specs.Prelude.{◌≡◌};
 ghost use Rattle.listen.specs.Heard.{listed_as, standing, starting, hear_frames, hear_block, hear_all, Hears};
 
 use super::line::{put_bad, put_frame};
-use capture::block::{BLOCK, Judged, count, frame, judge, time};
-use ieee802154::{Address, Pan, PanField};
+use capture::block::{BLOCK, count, frame, judge, time};
+use ieee802154::{Address, Pan};
 use reassembly::Gateway;
 use receiver::receive;
 use std::num::wrapping_add_u64;
@@ -19,7 +19,8 @@ pub struct Ear {
     pub block: u64,
 }
 
-// What a block came to: who listens on, whether reading goes on, and the place after the lines.
+// What a block came to: who listens on, whether reading goes on, and the place after the lines. The other fields stand
+// in either case, so `more` is a field, as `Hears` of specs/Heard.antt has it.
 #[derive(Clone, Copy)]
 pub struct Heard {
     pub ear: Ear,
@@ -33,7 +34,7 @@ fn listed_as(x: u16) -> Gateway
 {
     Gateway {
         addr: Address::Short(x),
-        pan: PanField::Some(Pan(0xabcd)),
+        pan: Some(Pan(0xabcd)),
     }
 }
 
@@ -47,7 +48,7 @@ impl Ear {
         let c = listed_as(3);
         let d = listed_as(4);
         let mut table = [0u64; WORDS];
-        words::begin(&mut table, [a, b, c, d], 4);
+        let _ = words::begin(&mut table, [a, b, c, d], 4);
         Ear {
             table,
             frames: 0,
@@ -57,6 +58,8 @@ impl Ear {
 }
 
 // The frames of a block, one after the other.
+// The lent rooms stay parameters, here and below: `receive` takes `mem` and `out` apart, and a struct of the three
+// would be made and taken apart in each call.
 fn hear_frames(
     ear: Ear,
     block: &[u8],
@@ -69,11 +72,9 @@ fn hear_frames(
         (hear_frames (record { ear = standing ear; mem = mem.old; out = out.old })
         block.now) }
 {
-    let n = count(block);
     let mut e = ear;
     let mut to = at;
-    let mut k: usize = 0;
-    while k < n {
+    for k in 0..count(block) {
         let answer = receive(
             &mut e.table,
             time(block, k) as u64,
@@ -84,7 +85,6 @@ fn hear_frames(
         );
         e.frames = wrapping_add_u64(e.frames, 1);
         to = put_frame(text, to, e.frames, answer);
-        k += 1;
     }
     Heard {
         ear: e,
@@ -109,7 +109,7 @@ pub fn hear(
         block.now) }
 {
     match judge(block, ear.block) {
-        Judged::Good(_) => {
+        Ok(_) => {
             let h = hear_frames(ear, block, mem, out, text, at);
             let mut e = h.ear;
             e.block = wrapping_add_u64(e.block, 1);
@@ -119,7 +119,7 @@ pub fn hear(
                 next: h.next,
             }
         }
-        Judged::Refused(_) => {
+        Err(_) => {
             let next = put_bad(text, at, ear.block);
             Heard {
                 ear,
@@ -128,29 +128,6 @@ pub fn hear(
             }
         }
     }
-}
-
-// The block that begins at a place: 512 bytes, or what is left.
-fn block_at(s: &[u8], from: usize) -> &[u8]
-    ensures { result.now ≡ take 512 (drop from s.now) }
-{
-    if s.len() <= from {
-        return &s[0..0];
-    }
-    if s.len() - from < BLOCK {
-        return &s[from..s.len()];
-    }
-    &s[from..from + BLOCK]
-}
-
-// What is left behind a block.
-fn behind(left: usize) -> usize
-    ensures { result ≡ left - 512 }
-{
-    if left < BLOCK {
-        return 0;
-    }
-    left - BLOCK
 }
 
 // A capture, or a part of one that begins where a block does: block after block, up to the first bad one. What is left
@@ -172,15 +149,12 @@ pub fn hear_all(
         more: true,
         next: at,
     };
-    let mut left = capture.len();
-    while 0 < left {
+    for block in capture.chunks(BLOCK) {
         let e = h.ear;
-        let block = block_at(capture, capture.len() - left);
         h = hear(e, block, mem, out, text, h.next);
         if !h.more {
             return h;
         }
-        left = behind(left);
     }
     h
 }

@@ -1,10 +1,12 @@
 // The lines that tell what was heard. Each is composed in a room of its own, which holds the longest one, and then put
 // into the lent room whole, or not at all.
+// `text, at` is the lent room and a place in it, as the functions of `text::print` take them.
 ghost use Rattle.std.specs.Prelude.{◌≡◌, ◌≤◌, ◌++◌, length};
 ghost use Rattle.text.specs.Text.{Printed};
 ghost use Rattle.reassembly.specs.Parts.{of_outcome};
 ghost use Rattle.listen.specs.Lines.{decimal, newline, frame_line, bad_line, end_line};
 
+use octets::refusal::Refusal;
 use reassembly::Outcome;
 use text::print;
 
@@ -36,13 +38,13 @@ fn put_two(text: &mut [u8], at: usize, n: u64, word: &[u8], x: u64) -> usize
 }
 
 // What frame n came to.
-pub fn put_frame(text: &mut [u8], at: usize, n: u64, answer: Outcome) -> usize
+pub fn put_frame(text: &mut [u8], at: usize, n: u64, answer: Result<Outcome, Refusal>) -> usize
     ensures { Printed at (frame_line n (of_outcome answer)) text.old text.new result }
 {
     match answer {
-        Outcome::Kept => put_one(text, at, b"", n, b" kept\n"),
-        Outcome::Out(len) => put_two(text, at, n, b" out ", len as u64),
-        Outcome::Refused(e) => put_two(text, at, n, b" no ", e.number() as u64),
+        Ok(Outcome::Kept) => put_one(text, at, b"", n, b" kept\n"),
+        Ok(Outcome::Out(len)) => put_two(text, at, n, b" out ", len as u64),
+        Err(e) => put_two(text, at, n, b" no ", e.number() as u64),
     }
 }
 

@@ -9,6 +9,9 @@
 ghost use Rattle.std.specs.Prelude.{true, false, ◌≡◌, ◌-◌, ◌^◌, ◌<◌, ◌≤◌, get_or};
 ghost use Rattle.marks.specs.Marks.{has_in, fill, bits, unpack, pack, within};
 
+// Four words by value, each with its own base, are a rule of the project, so what is done to each is written out. A run
+// of units is two numbers, which a Range would only hold to be taken apart in each function.
+
 // The first unit of the last word.
 const LAST: usize = 192;
 
@@ -36,9 +39,12 @@ fn below(h: usize) -> u64
 }
 
 // A unit's place in the word that begins at base: 0 before it, 64 past it.
+#[tactic(auto, unfolding(crate::specs::Marks::within))]
 fn place(u: usize, base: usize) -> usize
     ensures { result ≡ within base u }
 {
+    // Not `saturating_sub(..).min(..)`: 420 bytes more of a controller's flash, past the limit on what receives
+    // (bench/size).
     if u < base {
         return 0;
     }
@@ -68,11 +74,8 @@ fn word_has(w: u64, b: bool, base: usize, u: usize, e: usize) -> bool
     requires { u ≤ e }
     ensures { result ≡ has_in b (bits 64 w) (within base u) (within base e - within base u) }
 {
-    let k = mask(base, u, e);
-    if b {
-        return w & k != 0;
-    }
-    !w & k != 0
+    let x = if b { w } else { !w };
+    x & mask(base, u, e) != 0
 }
 
 // Whether one of the marks from u up to e, which lie within the words, is b.
@@ -80,16 +83,9 @@ fn words_have(m: [u64; 4], b: bool, u: usize, e: usize) -> bool
     requires { (u ≤ e) × (e ≤ 256) }
     ensures { result ≡ has_in b (unpack m) u (e - u) }
 {
-    if word_has(m[0], b, 0, u, e) {
-        return true;
-    }
-    if word_has(m[1], b, 64, u, e) {
-        return true;
-    }
-    if word_has(m[2], b, 128, u, e) {
-        return true;
-    }
-    word_has(m[3], b, LAST, u, e)
+    word_has(m[0], b, 0, u, e)
+        || (word_has(m[1], b, 64, u, e)
+            || (word_has(m[2], b, 128, u, e) || word_has(m[3], b, LAST, u, e)))
 }
 
 // The mark of unit u.
@@ -125,8 +121,7 @@ pub fn mark_one(m: [u64; 4], u: usize) -> [u64; 4]
         return m;
     }
     let mut n = m;
-    let w = u / 64;
-    n[w] = m[w] | bit(u % 64);
+    n[u / 64] |= bit(u % 64);
     n
 }
 
@@ -140,11 +135,6 @@ pub fn has_mark(m: [u64; 4], b: bool, u: usize, e: usize) -> bool
     if e <= 256 {
         return words_have(m, b, u, e);
     }
-    if b {
-        if 256 <= u {
-            return false;
-        }
-        return words_have(m, true, u, 256);
-    }
-    true
+    // Past the marks none is set: one that is not set is there, and one that is set is not.
+    !b || (u < 256 && words_have(m, true, u, 256))
 }

@@ -1,29 +1,20 @@
--- Each case of the answers' enums, as the value and the place, or the paper's number.
-use Rattle.std.specs.Prelude.{ℕ}
-use Rattle.octets.specs.Read.{Read, got, refused}
+-- What an answer of the code means: the value, with the place after it where it was read, or the paper's number.
+use Rattle.std.specs.Prelude.{ℕ, Result, Ok, Err}
+use Rattle.octets.specs.Read.{Answer, is, Read, got, refused}
 use Rattle.octets.specs.Refusal.{number_of}
-use Rattle.octets.specs.declared.cursor.ByteRead.{ByteRead}
-use Rattle.octets.specs.declared.cursor.WordRead.{WordRead}
-use Rattle.octets.specs.declared.cursor.WideRead.{WideRead}
-use Rattle.octets.specs.declared.cursor.LongRead.{LongRead}
-use Rattle.octets.specs.declared.cursor.Skipped.{Skipped}
+use Rattle.octets.specs.declared.refusal.Refusal.{Refusal}
+use Rattle.octets.specs.declared.cursor.Cursor.{Cursor}
 
-abbrev pub of_byte : ByteRead → Read ℕ
-of_byte (ByteRead.Field x c) = got x c.at
-of_byte (ByteRead.Refused e) = refused (number_of e)
+abbrev pub of_answer : {A : Type 0} → Result A Refusal → Answer A
+of_answer (Ok a) = is a
+of_answer (Err e) = refused (number_of e)
 
-abbrev pub of_word : WordRead → Read ℕ
-of_word (WordRead.Field x c) = got x c.at
-of_word (WordRead.Refused e) = refused (number_of e)
+-- a value and the place after it
+abbrev pub of_read : {A : Type 0} → Result (A × Cursor) Refusal → Read A
+of_read (Ok p) = got p.0 p.1.at
+of_read (Err e) = refused (number_of e)
 
-abbrev pub of_wide : WideRead → Read ℕ
-of_wide (WideRead.Field x c) = got x c.at
-of_wide (WideRead.Refused e) = refused (number_of e)
-
-abbrev pub of_long : LongRead → Read ℕ
-of_long (LongRead.Field x c) = got x c.at
-of_long (LongRead.Refused e) = refused (number_of e)
-
-abbrev pub of_skip : Skipped → Read (Unit {0})
-of_skip (Skipped.Past c) = got tt c.at
-of_skip (Skipped.Refused e) = refused (number_of e)
+-- the place after what was passed over
+abbrev pub of_skip : Result Cursor Refusal → Read (Unit {0})
+of_skip (Ok c) = got tt c.at
+of_skip (Err e) = refused (number_of e)

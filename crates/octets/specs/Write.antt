@@ -1,12 +1,8 @@
 -- What a writer writes: a number's bytes; and where a header's bytes go in the lent room.
-use Rattle.std.specs.Prelude.{ℕ, ◌+◌, ◌/◌, ◌%◌, ◌^◌, ◌≡◌, List, [], ◌∷◌, ◌++◌, length, set, drop, leb}
+use Rattle.std.specs.Prelude.{ℕ, ◌+◌, ◌/◌, ◌%◌, ◌^◌, ◌≡◌, List, [], ◌∷◌, ◌++◌, length, set, drop, leb, Result}
 use Rattle.octets.specs.Read.{Answer, is, refused, choose}
-use Rattle.octets.specs.Refusal.{number_of}
-use Rattle.octets.specs.declared.write.Written.{Written}
-
-abbrev pub of_written : Written → Answer ℕ
-of_written (Written.Bytes n) = is n
-of_written (Written.Refused e) = refused (number_of e)
+use Rattle.octets.specs.Answers.{of_answer}
+use Rattle.octets.specs.declared.refusal.Refusal.{Refusal}
 
 -- bs put into the room from a place on; what lies past the end is dropped
 unfoldable pub put : ℕ → List ℕ → List ℕ → List ℕ
@@ -44,5 +40,5 @@ abbrev pub over : ℕ → List ℕ → List ℕ → List ℕ
 over n bs room = choose (leb n (length room)) (bs ++ drop n room) room
 
 -- the answer of a writer of the n bytes bs, and the room after it
-abbrev pub Emits : Written → ℕ → List ℕ → List ℕ → List ℕ → Type 0
-Emits r n bs room after = (of_written r ≡ wrote n room) × (after ≡ over n bs room)
+abbrev pub Emits : Result ℕ Refusal → ℕ → List ℕ → List ℕ → List ℕ → Type 0
+Emits r n bs room after = (of_answer r ≡ wrote n room) × (after ≡ over n bs room)

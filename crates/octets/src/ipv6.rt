@@ -4,7 +4,7 @@ ghost use Rattle.octets.specs.Ipv6.{is_unspecified, is_multicast, is_link_local}
 
 // An address as the RFCs speak of it: the prefix, its first eight bytes, and the interface identifier, its last eight,
 // each as the number that the bytes are, the first byte high.
-#[derive(Clone, Copy)]
+#[derive(Clone, Copy, PartialEq, Eq)]
 pub struct Ipv6Addr {
     pub prefix: u64,
     pub iid: u64,
@@ -19,11 +19,7 @@ impl Ipv6Addr {
     pub fn is_unspecified(self) -> bool
         ensures { result ≡ is_unspecified self }
     {
-        if self.prefix == 0 {
-            self.iid == 0
-        } else {
-            false
-        }
+        self == Ipv6Addr::UNSPECIFIED
     }
 
     pub fn is_multicast(self) -> bool

@@ -3,7 +3,7 @@
 ghost use Rattle.std.specs.Prelude.{◌≡◌};
 ghost use Rattle.octets.specs.Refusal.{number_of};
 
-#[derive(Clone, Copy)]
+#[derive(Clone, Copy, Debug, PartialEq, Eq)]
 pub enum Refusal {
     // The bytes end before a needed field.
     Ended,
@@ -46,6 +46,7 @@ pub enum Refusal {
 
 impl Refusal {
     // The number that the scope document gives it.
+    // A method and no `From`: README names it.
     pub fn number(self) -> u8
         ensures { result ≡ number_of self }
     {

@@ -1,16 +1,9 @@
 // Fields put into lent bytes at a place. What lies past the end is dropped.
+// `buf, at` is the lent room and a place in it: the room is the caller's, and the place goes on by value.
+// No `copy_from_slice` here: slices are taken by their index in the crates under `lift_c` (docs/DECISIONS.md).
 ghost use Rattle.std.specs.Prelude.{◌≡◌};
 ghost use Rattle.octets.specs.Write.{put, byte_bytes, be16_bytes, be32_bytes, be64_bytes, le16_bytes, le32_bytes};
 ghost use Rattle.octets.specs.Write.{le64_bytes};
-
-use super::refusal::Refusal;
-
-// How many bytes were written, or why none was.
-#[derive(Clone, Copy)]
-pub enum Written {
-    Bytes(usize),
-    Refused(Refusal),
-}
 
 pub fn put_byte(buf: &mut [u8], at: usize, x: u8)
     ensures { buf.new ≡ put at (byte_bytes x) buf.old }
@@ -20,8 +13,9 @@ pub fn put_byte(buf: &mut [u8], at: usize, x: u8)
     }
 }
 
-// The high byte first. The room is tested once: where it ends within the number, each half tests for itself; else each
-// byte is taken from the number itself, and the compiler makes one store of them.
+// The high byte first. (As for `Cursor`: a trait over the width would be longer than the functions.) The room is
+// tested once: where it ends within the number, each half tests for itself; else each byte is taken from the number
+// itself, and the compiler makes one store of them.
 pub fn put_be16(buf: &mut [u8], at: usize, x: u16)
     ensures { buf.new ≡ put at (be16_bytes x) buf.old }
 {
@@ -72,7 +66,7 @@ pub fn put_be64(buf: &mut [u8], at: usize, x: u64)
     }
 }
 
-// The low byte first.
+// The low byte first. (By halves, as the readers; the three stay apart for the reason above.)
 pub fn put_le16(buf: &mut [u8], at: usize, x: u16)
     ensures { buf.new ≡ put at (le16_bytes x) buf.old }
 {

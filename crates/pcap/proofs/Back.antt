@@ -8,7 +8,7 @@ use lib.Dec.{eqb, leb, ltb}
 use lib.ListN.{length, get_or, take, drop, length-append, length-drop, drop_of_length-le}
 use lib.Seq.{length-take-le}
 use borrow.Author.Tests.{eqb-true, leb-true, ltb-true}
-use Rattle.octets.specs.Read.{is, refused, Read, Reader, got, and_then, choose, branch, ◌>>=◌, give, refuse, le16, le32}
+use Rattle.octets.specs.Read.{is, refused, Read, Reader, got, and_then, choose, branch, ◌>>=◌, give, refuse, le16, le32, value_or}
 use Rattle.octets.specs.Write.{le16_bytes, le32_bytes}
 use Rattle.octets.proofs.Spans.{not-refused, spans-le16, spans-le32}
 use Rattle.octets.proofs.Steps.{and-true}
@@ -40,10 +40,6 @@ passed false r k n b e = not-refused _ k e
 abbrev next_of : {A : Type 0} → Read A → ℕ
 next_of (is p) = p.next
 next_of (refused n) = 0
-
-abbrev value_or : {A : Type 0} → A → Read A → A
-value_or a (is p) = p.value
-value_or a (refused n) = a
 
 pub given : {A : Type 0} (a b : A) (m n : ℕ) → got a m ≡ got b n → (a ≡ b) × (m ≡ n)
 given a b m n e = (ap (value_or a) e, ap next_of e)

@@ -1,41 +1,34 @@
 -- What the functions of going and put need: what a block comes to, place by place, and the bytes of a capture, block by block.
+use Rattle.octets.specs.Answers.{of_answer}
+use Rattle.std.specs.Prelude.{Result, Ok, Err, IsErr, IsErrAnd}
+use Rattle.std.specs.Result.{is_ok}
+use Rattle.capture.proofs.Unique.{told-good, told-bad}
 use Prim.Native.Nat.{ℕ, zero, suc, ◌+◌, ◌*◌, ◌-◌, ◌/◌, ◌%◌, ◌≤◌, ◌<◌, min}
 use native.Mathlib.Nat.{add-zero}
+use native.Mathlib.Numerals.{add-one}
 use native.Mathlib.Omega.{arith}
 use mathlib.Core.Path.{◌≡◌, refl, sym, ap, ap₂, ◌∙◌}
 use mathlib.Core.List.{List, [], ◌∷◌, ◌++◌, append_assoc, append-nil}
 use mathlib.Core.Bool.{Bool, true, false, ◌&&◌}
-use lib.Dec.{eqb, leb, ltb}
-use lib.ListN.{length, get_or, set, take, drop, length-append, length-take, length-drop, length-set, drop_of_length-le}
-use lib.Seq.{take_all, drop-drop, drop-cons}
-use borrow.Author.Tests.{lt-ltb, le-ltb, le-leb, lt-leb, eqb-true, leb-true, leb-false}
+use lib.Dec.{eqb, ltb}
+use lib.ListN.{length, set, take, drop, length-append, length-take, length-drop, length-set}
+use lib.Seq.{sets, sets-eq, drop-drop}
+use borrow.Rule.Slice.PartMut.{put_mid}
+use borrow.Author.Tests.{lt-ltb, le-ltb, le-leb, lt-leb, eqb-true}
 use Rattle.octets.specs.Read.{Answer, is, refused, and_then, choose}
-use Rattle.octets.specs.Write.{put, le16_bytes, le32_bytes, of_written}
+use Rattle.octets.specs.Write.{put, le16_bytes, le32_bytes}
 use Rattle.octets.specs.Refusal.{number_of}
 use Rattle.octets.specs.declared.refusal.Refusal.{Refusal}
-use Rattle.octets.specs.declared.write.Written.{Written}
 use Rattle.octets.proofs.Spans.{not-refused}
 use Rattle.octets.proofs.Puts.{put-append, put-nil, put_front, more, more-le32}
 use Rattle.octets.proofs.Steps.{and-true}
 use Rattle.capture.specs.Block.{Timed, count_of, time_of, frame_of, timed_of, frames_of, good_head, good_places, good_end, good_block, judged, length_at, place_at}
 use Rattle.capture.proofs.BlockSteps.{count_small}
+use Rattle.capture.proofs.File.{chunk-front, chunk-back}
 use Rattle.pcap.specs.Frames.{block_count, frames_from, frames_of_capture, head_bytes, time_bytes, length_bytes, frame_bytes, frames_bytes, pcap_of}
 use Rattle.pcap.specs.Moves.{to_pcap, sized, placed, lengthed, place_bytes, block_bytes, carried, carried_all}
 use Rattle.pcap.proofs.There.{frame-length}
 use Rattle.pcap.proofs.Blocks.{turn}
-
--- ---- the block at a place
-pub none_left : (s : List ℕ) (i : ℕ) → length s ≤ i → [] ≡ take 512 (drop i s)
-none_left s i h = sym (ap (take 512) (drop_of_length-le s h))
-
-pub rest-left : (s : List ℕ) (i n : ℕ) → i < length s → length s - i < 512 → n ≡ length s - i → take n (drop i s) ≡ take 512 (drop i s)
-rest-left s i n h k e =
-    let a : length (drop i s) ≤ n = omega (arith, length-drop i s) in
-    let b : length (drop i s) ≤ 512 = omega (arith, length-drop i s) in
-    take_all n (drop i s) a ∙ sym (take_all 512 (drop i s) b)
-
-pub whole-left : (s : List ℕ) (i n : ℕ) → n ≡ 512 → take n (drop i s) ≡ take 512 (drop i s)
-whole-left s i n e = ap (λ k. take k (drop i s)) e
 
 -- ---- a place of a block
 frame-short : (s : List ℕ) (k : ℕ) → length (frame_of k s) ≤ 127
@@ -85,9 +78,9 @@ unfolding frames_bytes
 frames-append [] fs = refl
 frames-append (f ∷ g) fs = ap (λ l. frame_bytes f ++ l) (frames-append g fs) ∙ sym (append_assoc (frame_bytes f) (frames_bytes g) (frames_bytes fs))
 
--- ---- measuring: n bytes so far, and the capture from the place at on, where block b is due
-pub measured : List ℕ → ℕ → ℕ → ℕ → Answer ℕ
-measured s n at b = and_then (frames_from (block_count (drop at s)) b (drop at s)) (λ fs. is (n + length (frames_bytes fs)))
+-- ---- measuring: n bytes so far, and the capture s from where block b is due
+pub measured : ℕ → ℕ → List ℕ → Answer ℕ
+measured n b s = and_then (frames_from (block_count s) b s) (λ fs. is (n + length (frames_bytes fs)))
 
 pub head-length : length head_bytes ≡ 24
 unfolding head_bytes le32_bytes le16_bytes
@@ -101,7 +94,7 @@ start-go : (r : Answer (List Timed)) → and_then r (λ fs. is (24 + length (fra
 start-go (is fs) = ap is (sym (pcap-length fs))
 start-go (refused n) = refl
 
-pub measure-start : (s : List ℕ) → measured s 24 0 0 ≡ lengthed (to_pcap s)
+pub measure-start : (s : List ℕ) → measured 24 0 s ≡ lengthed (to_pcap s)
 unfolding measured to_pcap
 measure-start s = start-go (frames_of_capture s)
 
@@ -109,8 +102,8 @@ pub good-whole : (b : ℕ) (u : List ℕ) → good_block b u ≡ true → length
 unfolding good_block
 good-whole b u g = eqb-true (length u) 512 (and-true (eqb (length u) 512) (good_head b u && (good_places u && good_end u)) g).0
 
-one_more : (s : List ℕ) (at : ℕ) → at < length s → block_count (drop at s) ≡ suc (block_count (drop 512 (drop at s)))
-one_more s at h = omega (arith, length-drop at s, length-drop 512 (drop at s))
+one_more : (s : List ℕ) → 0 < length s → block_count s ≡ suc (block_count (drop 512 s))
+one_more s h = omega (arith, length-drop 512 s)
 
 turn-go : (n : ℕ) (u : List ℕ) (r : Answer (List Timed)) → and_then (and_then r (λ fs. is (frames_of u ++ fs))) (λ fs. is (n + length (frames_bytes fs))) ≡ and_then r (λ fs. is (n + length (block_bytes u) + length (frames_bytes fs)))
 turn-go n u (is fs) =
@@ -118,54 +111,41 @@ turn-go n u (is fs) =
     ap is e
 turn-go n u (refused k) = refl
 
-module _ (s : List ℕ) (n at b : ℕ) (h : at < length s) where
-  opened : (t : Bool) → good_block b (take 512 (drop at s)) ≡ t → measured s n at b ≡ and_then (and_then (choose t (is (count_of (take 512 (drop at s)))) (refused 15)) (λ c. and_then (frames_from (block_count (drop 512 (drop at s))) (b + 1) (drop 512 (drop at s))) (λ fs. is (frames_of (take 512 (drop at s)) ++ fs)))) (λ fs. is (n + length (frames_bytes fs)))
+module _ (s : List ℕ) (n b : ℕ) (h : 0 < length s) where
+  opened : (t : Bool) → good_block b (take 512 s) ≡ t → measured n b s ≡ and_then (and_then (choose t (is (count_of (take 512 s))) (refused 15)) (λ c. and_then (frames_from (block_count (drop 512 s)) (b + 1) (drop 512 s)) (λ fs. is (frames_of (take 512 s) ++ fs)))) (λ fs. is (n + length (frames_bytes fs)))
   unfolding measured frames_from judged
-  opened t q = rw (one_more s at h) (rw q refl)
+  opened t q = rw (one_more s h) (rw q refl)
 
-  pub measure-turn : good_block b (take 512 (drop at s)) ≡ true → measured s n at b ≡ measured s (n + length (block_bytes (take 512 (drop at s)))) (at + 512) (b + 1)
+  measure-turn : good_block b (take 512 s) ≡ true → measured n b s ≡ measured (n + length (block_bytes (take 512 s))) (b + 1) (drop 512 s)
   unfolding measured
-  measure-turn g =
-      opened true g
-      ∙ turn-go n (take 512 (drop at s)) (frames_from (block_count (drop 512 (drop at s))) (b + 1) (drop 512 (drop at s)))
-      ∙ ap (λ t. and_then (frames_from (block_count t) (b + 1) t) (λ fs. is (n + length (block_bytes (take 512 (drop at s))) + length (frames_bytes fs)))) (drop-drop 512 at s)
+  measure-turn g = opened true g ∙ turn-go n (take 512 s) (frames_from (block_count (drop 512 s)) (b + 1) (drop 512 s))
 
-  pub measure-stop : good_block b (take 512 (drop at s)) ≡ false → measured s n at b ≡ refused 15
+  measure-stop : good_block b (take 512 s) ≡ false → measured n b s ≡ refused 15
   measure-stop g = opened false g
 
-  -- a good block is whole, so the next one begins 512 further
-  pub measure-room : good_block b (take 512 (drop at s)) ≡ true → at + 512 ≤ length s
-  measure-room g = omega (arith, good-whole b (take 512 (drop at s)) g, length-take 512 (drop at s), length-drop at s)
-
 -- the same, from what calls told
-module _ (s : List ℕ) (n at b : ℕ) (u : List ℕ) (g : Bool) (h : at < length s) (e : u ≡ take 512 (drop at s)) (q : g ≡ good_block b u) where
-  good : good_block b (take 512 (drop at s)) ≡ g
-  good = ap (good_block b) (sym e) ∙ sym q
+module _ (s : List ℕ) (n b : ℕ) (u v : List ℕ) (g : Bool) (a : s ≡ u ++ v) (l : length u ≡ min 512 (length s)) (h : 0 < length s) (q : g ≡ good_block b u) where
+  good : good_block b (take 512 s) ≡ g
+  good = ap (good_block b) (sym (chunk-front s u v a l)) ∙ sym q
 
-  pub told-stop : g ≡ false → refused 15 ≡ measured s n at b
-  told-stop f = sym (measure-stop s n at b h (good ∙ f))
+  pub told-stop : g ≡ false → refused 15 ≡ measured n b s
+  told-stop f = sym (measure-stop s n b h (good ∙ f))
 
-  pub told-room : g ≡ true → at + 512 ≤ length s
-  told-room t = measure-room s n at b h (good ∙ t)
+  -- a good block is whole, so the next one begins 512 further
+  pub told-room : g ≡ true → length s ≡ 512 + length v
+  told-room t =
+      let w = good-whole b u (sym q ∙ t) in
+      omega (arith, ap length a, length-append u v)
 
-  pub told-turn : g ≡ true → (l : ℕ) → l ≡ length (block_bytes u) → measured s (n + l) (at + 512) (b + 1) ≡ measured s n at b
-  told-turn t l m = sym (measure-turn s n at b h (good ∙ t) ∙ ap (λ k. measured s (n + k) (at + 512) (b + 1)) (sym (m ∙ ap (λ w. length (block_bytes w)) e)))
+  pub told-turn : g ≡ true → (m : ℕ) → m ≡ length (block_bytes u) → measured (n + m) (b + 1) v ≡ measured n b s
+  told-turn t m k =
+      ap₂ (λ i w. measured (n + i) (b + 1) w) (k ∙ ap (λ w. length (block_bytes w)) (chunk-front s u v a l)) (chunk-back s u v a l)
+      ∙ sym (measure-turn s n b h (good ∙ t))
 
-pub measure-end : (s : List ℕ) (n at b : ℕ) → length s ≤ at → measured s n at b ≡ is n
+pub measure-end : (s : List ℕ) (n b : ℕ) → length s ≡ 0 → measured n b s ≡ is n
 unfolding measured frames_from frames_bytes
-measure-end s n at b h = rw (drop_of_length-le s h) (ap is (add-zero n))
-
--- ---- putting
--- one more byte
-pub put_step : (bs l : List ℕ) (at i : ℕ) → i < length bs → put (at + i) (drop i bs) l ≡ put (at + (i + 1)) (drop (i + 1) bs) (set l (at + i) (get_or bs i 0))
-unfolding put
-put_step bs l at i h =
-    let e : suc i ≡ i + 1 = omega arith in
-    let f : at + i + 1 ≡ at + (i + 1) = omega arith in
-    rw (drop-cons bs i 0 h, e) (ap (λ k. put k (drop (i + 1) bs) (set l (at + i) (get_or bs i 0))) f)
-
-pub put-done : (bs l : List ℕ) (at i : ℕ) → length bs ≤ i → put (at + i) (drop i bs) l ≡ l
-put-done bs l at i h = rw (drop_of_length-le bs h) (sym (put-nil (at + i) l))
+measure-end [] n b h = ap is (add-zero n)
+measure-end (x ∷ s) n b h = absurd (omega arith)
 
 pub length-put : (at : ℕ) (bs l : List ℕ) → length (put at bs l) ≡ length l
 unfolding put
@@ -216,36 +196,17 @@ unfolding block_bytes
 block_room s at l h = omega (arith, length-append (place_bytes 0 s) (place_bytes 1 s ++ place_bytes 2 s), length-append (place_bytes 1 s) (place_bytes 2 s))
 
 -- ---- block after block: what is put, with what the rest comes to, is the whole
-pub rest_from : List ℕ → ℕ → List ℕ
-rest_from s at = carried_all (drop at s)
+module _ (s u v : List ℕ) (a : s ≡ u ++ v) (l : length u ≡ min 512 (length s)) (h : 0 < length s) where
+  pub carried-more : carried_all s ≡ block_bytes u ++ carried_all v
+  unfolding carried
+  carried-more =
+      rw (one_more s h)
+      (ap₂ (λ x y. block_bytes x ++ carried_all y) (sym (chunk-front s u v a l)) (sym (chunk-back s u v a l)))
 
-next-drop : (s : List ℕ) (at : ℕ) → drop (min (at + 512) (length s)) s ≡ drop 512 (drop at s)
-next-drop s at = go (leb (at + 512) (length s)) refl
-  where
-    go : (t : Bool) → leb (at + 512) (length s) ≡ t → drop (min (at + 512) (length s)) s ≡ drop 512 (drop at s)
-    go true q =
-        let h = leb-true (at + 512) (length s) q in
-        let e : min (at + 512) (length s) ≡ at + 512 = omega arith in
-        ap (λ k. drop k s) e ∙ sym (drop-drop 512 at s)
-    go false q =
-        let h = leb-false (at + 512) (length s) q in
-        let e : min (at + 512) (length s) ≡ length s = omega arith in
-        let k : length s ≤ length s = omega arith in
-        let j : length s ≤ at + 512 = omega arith in
-        ap (λ k. drop k s) e ∙ drop_of_length-le s k ∙ sym (drop-drop 512 at s ∙ drop_of_length-le s j)
-
-module _ (s : List ℕ) (at : ℕ) (h : at < length s) where
-  pub rest_more : rest_from s at ≡ block_bytes (take 512 (drop at s)) ++ rest_from s (min (at + 512) (length s))
-  unfolding rest_from carried
-  rest_more = rw (one_more s at h) (ap (λ t. block_bytes (take 512 (drop at s)) ++ carried (block_count t) t) (sym (next-drop s at)))
-
-pub rest-none : (s : List ℕ) (at : ℕ) → length s ≤ at → rest_from s at ≡ []
-unfolding rest_from carried
-rest-none s at h = rw (drop_of_length-le s h) refl
-
-pub rest_all : (s : List ℕ) → rest_from s 0 ≡ carried_all s
-unfolding rest_from
-rest_all s = refl
+pub carried-none : (s : List ℕ) → length s ≡ 0 → carried_all s ≡ []
+unfolding carried
+carried-none [] h = refl
+carried-none (x ∷ s) h = absurd (omega arith)
 
 -- ---- the whole move
 carried-go : (n b : ℕ) (s : List ℕ) (fs : List Timed) → frames_from n b s ≡ is fs → frames_bytes fs ≡ carried n s
@@ -298,23 +259,45 @@ module _ (s : List ℕ) (n : ℕ) (e : is n ≡ lengthed (to_pcap s)) where
       let b : n ≡ length (pcap_bytes s) = z.1 ∙ sym (length-append head_bytes (carried_all s) ∙ ap (λ k. k + length (carried_all s)) head-length) in
       move-made (to_pcap s) (pcap_bytes s) n l o z.0 b h (more l m o 0 24 head_bytes (carried_all s) head-length p q)
 
--- from what calls told
-pub told-refused : (y : Written) (e : Refusal) (a : Answer (List ℕ)) (room : List ℕ) → of_written y ≡ lengthed a → y ≡ Written.Refused e → (refused (number_of e) ≡ sized a room) × (room ≡ placed a room)
-told-refused y e a room p q = move-refused a (number_of e) room (sym (ap of_written q) ∙ p)
+pub put-sets : (at : ℕ) (bs l : List ℕ) → put at bs l ≡ sets l at bs
+unfolding put
+put-sets at [] l = refl
+put-sets at (b ∷ bs) l = put-sets (at + 1) bs (set l at b) ∙ ap (λ k. sets (set l at b) k bs) (add-one at)
 
-pub told-length : (y : Written) (n : ℕ) (a : Answer (List ℕ)) → of_written y ≡ lengthed a → y ≡ Written.Bytes n → is n ≡ lengthed a
-told-length y n a p q = sym (ap of_written q) ∙ p
+-- bytes copied into the middle
+pub put-mid : (at n : ℕ) (bs q l : List ℕ) → length bs ≡ n → at + n ≤ length l → q ≡ bs → put_mid at (at + n - at) l q ≡ put at bs l
+put-mid at n bs q l e h p =
+    let g : at + length bs ≤ length l = omega arith in
+    let k : at + (at + n - at) ≡ at + length bs = omega arith in
+    ap₂ (λ z x. take at l ++ (x ++ z)) (drop-drop (at + n - at) at l ∙ ap (λ i. drop i l) k) p
+    ∙ sym (put-sets at bs l ∙ sets-eq bs l at g ∙ append_assoc (take at l) bs (drop (at + length bs) l))
+
+pub judged-good : (j : Result ℕ Refusal) (b : ℕ) (s : List ℕ) → of_answer j ≡ judged b s → is_ok j ≡ good_block b s
+judged-good (Ok n) b s p = sym (told-good (Ok n) b s p n refl).0
+judged-good (Err e) b s p = sym (told-bad (Err e) b s p e refl)
+
+-- a refusal that `?` hands on
+pub handed : {A : Type 0} (r : Result A Refusal) (e : Refusal) → IsErr r × IsErrAnd r (λ x. x ≡ e) → refused (number_of e) ≡ of_answer r
+handed (Err x) e h = ap (λ z. refused (number_of z)) (sym h.1)
+handed (Ok a) e h = absurd h.1
+
+-- from what calls told
+pub told-refused : (y : Result ℕ Refusal) (e : Refusal) (a : Answer (List ℕ)) (room : List ℕ) → of_answer y ≡ lengthed a → y ≡ Err e → (refused (number_of e) ≡ sized a room) × (room ≡ placed a room)
+told-refused y e a room p q = move-refused a (number_of e) room (sym (ap of_answer q) ∙ p)
+
+pub told-length : (y : Result ℕ Refusal) (n : ℕ) (a : Answer (List ℕ)) → of_answer y ≡ lengthed a → y ≡ Ok n → is n ≡ lengthed a
+told-length y n a p q = sym (ap of_answer q) ∙ p
 
 -- one block put
-module _ (s : List ℕ) (at to r : ℕ) (l o : List ℕ) (u : List ℕ) (h : at < length s) (e : u ≡ take 512 (drop at s)) where
-  pub rest-room : (n : ℕ) → to + length (rest_from s at) ≤ n → to + length (block_bytes u) ≤ n
-  rest-room n k = omega (arith, ap length (rest_more s at h), length-append (block_bytes (take 512 (drop at s))) (rest_from s (min (at + 512) (length s))), ap (λ w. length (block_bytes w)) e)
+module _ (s u v : List ℕ) (a : s ≡ u ++ v) (k : length u ≡ min 512 (length s)) (h : 0 < length s) (to r : ℕ) (l o : List ℕ) where
+  pub rest-room : (n : ℕ) → to + length (carried_all s) ≤ n → to + length (block_bytes u) ≤ n
+  rest-room n m = omega (arith, ap length (carried-more s u v a k h), length-append (block_bytes u) (carried_all v))
 
-  pub rest_put : (k : ℕ) → k ≡ min (at + 512) (length s) → (r ≡ to + length (block_bytes u)) × (o ≡ put to (block_bytes u) l) → (r + length (rest_from s k) ≡ to + length (rest_from s at)) × (put r (rest_from s k) o ≡ put to (rest_from s at) l)
-  rest_put k q p =
-      let f = rest_more s at h ∙ ap₂ (λ w v. block_bytes w ++ rest_from s v) (sym e) (sym q) in
+  pub rest_put : (r ≡ to + length (block_bytes u)) × (o ≡ put to (block_bytes u) l) → (r + length (carried_all v) ≡ to + length (carried_all s)) × (put r (carried_all v) o ≡ put to (carried_all s) l)
+  rest_put p =
+      let f = carried-more s u v a k h in
       let p0 = p.0 in
-      (omega (arith, ap length f, length-append (block_bytes u) (rest_from s k)), ap₂ (λ x y. put x (rest_from s k) y) p.0 p.1 ∙ sym (put-append to (block_bytes u) (rest_from s k) l) ∙ ap (λ x. put to x l) (sym f))
+      (omega (arith, ap length f, length-append (block_bytes u) (carried_all v)), ap₂ (λ x y. put x (carried_all v) y) p.0 p.1 ∙ sym (put-append to (block_bytes u) (carried_all v) l) ∙ ap (λ x. put to x l) (sym f))
 
-pub rest_end : (s : List ℕ) (at to : ℕ) (l : List ℕ) → length s ≤ at → put to (rest_from s at) l ≡ l
-rest_end s at to l h = ap (λ x. put to x l) (rest-none s at h) ∙ sym (put-nil to l)
+pub rest_end : (s : List ℕ) (to : ℕ) (l : List ℕ) → length s ≡ 0 → put to (carried_all s) l ≡ l
+rest_end s to l h = ap (λ x. put to x l) (carried-none s h) ∙ sym (put-nil to l)

@@ -1,28 +1,25 @@
 -- What the functions of coming need: frames counted one after the other, and the length of their blocks.
+use Rattle.octets.specs.Answers.{of_answer, of_skip}
+use Rattle.std.specs.Prelude.{Result, Ok, Err}
 use Prim.Native.Nat.{ℕ, zero, suc, ◌+◌, ◌*◌, ◌-◌, ◌/◌, ◌≤◌, ◌<◌}
 use native.Mathlib.Nat.{add-zero}
 use native.Mathlib.Omega.{arith}
 use mathlib.Core.Path.{◌≡◌, refl, sym, ap, ◌∙◌}
 use mathlib.Core.List.{List, [], ◌∷◌}
 use lib.Dec.{ltb}
-use lib.ListN.{length, take, drop, length-append}
+use lib.ListN.{length, length-append}
 use borrow.Author.Tests.{le-leb, lt-leb, lt-ltb, le-ltb}
 use Rattle.octets.specs.Read.{is, refused, Read, got, and_then, choose}
 use Rattle.octets.specs.Refusal.{number_of}
-use Rattle.octets.specs.Write.{of_written}
-use Rattle.octets.specs.Answers.{of_skip}
 use Rattle.octets.specs.declared.refusal.Refusal.{Refusal}
 use Rattle.octets.specs.declared.cursor.Cursor.{Cursor}
-use Rattle.octets.specs.declared.cursor.Skipped.{Skipped}
-use Rattle.octets.specs.declared.write.Written.{Written}
 use Rattle.octets.proofs.Spans.{not-refused}
 use Rattle.capture.specs.Block.{Timed}
 use Rattle.capture.specs.Made.{block_of, Bytes}
 use Rattle.pcap.specs.Frames.{blocks_from, frame_field, frames_field, most_frames, head, frames_of_pcap}
 use Rattle.pcap.specs.Moves.{from_pcap, lengthed, counted}
 use Rattle.pcap.specs.Answers.{of_frame}
-use Rattle.pcap.specs.declared.read.FrameRead.{FrameRead}
-use Rattle.pcap.proofs.Back.{frame_back}
+use Rattle.pcap.specs.declared.read.TimedFrame.{TimedFrame}
 use Rattle.pcap.proofs.Blocks.{Each, block-length, tail-each, first-each}
 
 -- ---- one frame more
@@ -65,24 +62,18 @@ count_most n k s j at h =
     sym (ap (λ i. and_then (frames_field i (k + j) s at) (λ p. is (j + length p.value))) e ∙ ap is (add-zero j))
 
 -- from what calls told; number is that of the frame
-module _ (n k : ℕ) (s : List ℕ) (j at : ℕ) (l : j < n) (h : at < length s) (y : FrameRead) (p : of_frame s y ≡ frame_field s at) where
-  frame_is : (x : FrameRead) → y ≡ x → frame_field s at ≡ of_frame s x
-  frame_is x q = sym p ∙ ap (of_frame s) q
+module _ (n k : ℕ) (s : List ℕ) (j at : ℕ) (l : j < n) (h : at < length s) (y : Result (TimedFrame × Cursor) Refusal) (p : of_frame y ≡ frame_field s at) where
+  frame_is : (x : Result (TimedFrame × Cursor) Refusal) → y ≡ x → frame_field s at ≡ of_frame x
+  frame_is x q = sym p ∙ ap of_frame q
 
-  pub told-turn : (number : ℕ) → number ≡ k + j → (t : ℕ) (c : Cursor) (m : ℕ) → y ≡ FrameRead.Frame t c m → number < most_frames → counted n k s (j + 1) (c.at + m) ≡ counted n k s j at
-  told-turn number e t c m q u = count_turn n k s j at l h _ (c.at + m) (frame_is (FrameRead.Frame t c m) q) (omega arith)
+  pub told-turn : (number : ℕ) → number ≡ k + j → (f : TimedFrame × Cursor) → y ≡ Ok f → number < most_frames → counted n k s (j + 1) f.1.at ≡ counted n k s j at
+  told-turn number e f q u = count_turn n k s j at l h _ f.1.at (frame_is (Ok f) q) (omega arith)
 
-  pub told-full : (number : ℕ) → number ≡ k + j → (t : ℕ) (c : Cursor) (m : ℕ) → y ≡ FrameRead.Frame t c m → most_frames ≤ number → refused 18 ≡ counted n k s j at
-  told-full number e t c m q u = count-full n k s j at l h _ (c.at + m) (frame_is (FrameRead.Frame t c m) q) (omega arith)
+  pub told-full : (number : ℕ) → number ≡ k + j → (f : TimedFrame × Cursor) → y ≡ Ok f → most_frames ≤ number → refused 18 ≡ counted n k s j at
+  told-full number e f q u = count-full n k s j at l h _ f.1.at (frame_is (Ok f) q) (omega arith)
 
-  pub told-stop : (e : Refusal) → y ≡ FrameRead.Refused e → refused (number_of e) ≡ counted n k s j at
-  told-stop e q = count-stop n k s j at l h (number_of e) (frame_is (FrameRead.Refused e) q)
-
-  pub told-on : Bytes s → (t : ℕ) (c : Cursor) (m : ℕ) → y ≡ FrameRead.Frame t c m → c.at + m ≤ length s
-  told-on b t c m q =
-      let g : at ≤ length s = omega arith in
-      let f : Timed = record { time = t; frame = take m (drop c.at s) } in
-      (frame_back s at f (c.at + m) b g (frame_is (FrameRead.Frame t c m) q)).stands.1.1
+  pub told-stop : (e : Refusal) → y ≡ Err e → refused (number_of e) ≡ counted n k s j at
+  told-stop e q = count-stop n k s j at l h (number_of e) (frame_is (Err e) q)
 
 -- ---- the length of blocks
 pub blocks-length : (fs : List Timed) (b : ℕ) → Each fs → length (blocks_from b fs) ≡ 512 * ((length fs + 2) / 3)
@@ -103,17 +94,17 @@ module _ (s : List ℕ) (b : Bytes s) where
   none-go at n (refused k) q e c = rw (e, q) c
 
   -- from what calls told
-  module _ (y : Skipped) (p : of_skip y ≡ head s 0) where
-    pub head-none : (e : Refusal) → y ≡ Skipped.Refused e → refused (number_of e) ≡ lengthed (from_pcap s)
+  module _ (y : Result Cursor Refusal) (p : of_skip y ≡ head s 0) where
+    pub head-none : (e : Refusal) → y ≡ Err e → refused (number_of e) ≡ lengthed (from_pcap s)
     unfolding from_pcap frames_of_pcap
     head-none e q = let z : head s 0 ≡ refused (number_of e) = sym p ∙ ap of_skip q in rw z refl
 
-    module _ (c : Cursor) (q : y ≡ Skipped.Past c) (r : Written) (g : of_written r ≡ counted (length s) 0 s 0 c.at) where
+    module _ (c : Cursor) (q : y ≡ Ok c) (r : Result ℕ Refusal) (g : of_answer r ≡ counted (length s) 0 s 0 c.at) where
       all_left : counted (length s) 0 s 0 c.at ≡ and_then (frames_field (length s) 0 s c.at) (λ p. is (0 + length p.value))
       all_left = let z : length s - 0 ≡ length s = omega arith in ap (λ n. and_then (frames_field n 0 s c.at) (λ p. is (0 + length p.value))) z
 
       start : head s 0 ≡ got tt c.at
       start = sym p ∙ ap of_skip q
 
-      pub count_none : (e : Refusal) → r ≡ Written.Refused e → refused (number_of e) ≡ lengthed (from_pcap s)
-      count_none e u = none-go c.at (number_of e) (frames_field (length s) 0 s c.at) refl start (sym (ap of_written u) ∙ g ∙ all_left)
+      pub count_none : (e : Refusal) → r ≡ Err e → refused (number_of e) ≡ lengthed (from_pcap s)
+      count_none e u = none-go c.at (number_of e) (frames_field (length s) 0 s c.at) refl start (sym (ap of_answer u) ∙ g ∙ all_left)

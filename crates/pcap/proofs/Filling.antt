@@ -1,19 +1,16 @@
 -- What the functions of fill need: zeros, places and blocks put one after the other.
+use Rattle.octets.specs.Answers.{of_answer, of_skip}
+use Rattle.std.specs.Prelude.{Result, Ok, Err}
 use Prim.Native.Nat.{ℕ, zero, suc, ◌+◌, ◌*◌, ◌-◌, ◌/◌, ◌≤◌, ◌<◌, min}
-use native.Mathlib.Nat.{add-zero}
-use native.Mathlib.Numerals.{add-one}
 use native.Mathlib.Omega.{arith}
 use mathlib.Core.Path.{◌≡◌, refl, sym, ap, ap₂, subst, ◌∙◌}
 use mathlib.Core.List.{List, [], ◌∷◌, ◌++◌, append_assoc, append-nil}
 use mathlib.Core.Bool.{Bool, true, false}
 use lib.Dec.{leb, ltb}
-use lib.ListN.{length, set, take, drop, replicate, length-append, length-replicate, length-take, length-drop}
-use lib.Seq.{sets, sets-eq, take_at, drop_at, length-take-le}
-use Rattle.octets.specs.Read.{is, refused, Read, got, and_then, choose, give}
-use Rattle.octets.specs.Write.{put, of_written, byte_bytes, le16_bytes, le32_bytes}
-use Rattle.octets.specs.Answers.{of_skip}
-use Rattle.octets.specs.declared.cursor.Skipped.{Skipped}
-use Rattle.octets.specs.declared.write.Written.{Written}
+use lib.ListN.{length, take, drop, replicate, length-append, length-replicate}
+use lib.Seq.{sets-eq, take_at, drop_at, length-take-le}
+use Rattle.octets.specs.Read.{is, refused, Read, got, and_then, choose, give, value_or}
+use Rattle.octets.specs.Write.{put, byte_bytes, le16_bytes, le32_bytes}
 use Rattle.octets.proofs.Spans.{not-refused}
 use Rattle.octets.specs.declared.refusal.Refusal.{Refusal}
 use Rattle.octets.specs.declared.cursor.Cursor.{Cursor}
@@ -26,30 +23,12 @@ use Rattle.capture.proofs.Parts.{bytes-nil}
 use Rattle.pcap.specs.Frames.{blocks_from, blocks_of, frame_field, frames_field, most_frames, head, frames_of_pcap}
 use Rattle.pcap.specs.Moves.{from_pcap, sized, placed, lengthed, counted}
 use Rattle.pcap.specs.Answers.{of_frame}
-use Rattle.pcap.specs.Placing.{value_or, next_or, frame_at, after_at, frames_at, behind_at, front_bytes, places_bytes}
-use Rattle.pcap.specs.declared.read.FrameRead.{FrameRead}
+use Rattle.pcap.specs.Placing.{next_or, frame_at, after_at, frames_at, behind_at, front_bytes, places_bytes}
+use Rattle.pcap.specs.declared.read.TimedFrame.{TimedFrame}
 use Rattle.pcap.proofs.Back.{took, passed, given, back_head, frame_back, pcap-holds}
 use Rattle.pcap.proofs.Blocks.{Each, block-length}
-use Rattle.pcap.proofs.Carrying.{move-short, move-made}
+use Rattle.pcap.proofs.Carrying.{move-short, move-made, put-sets}
 use Rattle.pcap.proofs.Counting.{blocks-length}
-
--- ---- zeros
-pub zeros-step : (n i at : ℕ) (l : List ℕ) → i < n → put (at + i) (replicate (n - i) 0) l ≡ put (at + (i + 1)) (replicate (n - (i + 1)) 0) (set l (at + i) 0)
-unfolding put
-zeros-step n i at l h =
-    let e : n - i ≡ suc (n - (i + 1)) = omega arith in
-    let f : at + i + 1 ≡ at + (i + 1) = omega arith in
-    rw e (ap (λ k. put k (replicate (n - (i + 1)) 0) (set l (at + i) 0)) f)
-
-pub zeros-start : (n at : ℕ) (l : List ℕ) → put (at + 0) (replicate (n - 0) 0) l ≡ put at (replicate n 0) l
-zeros-start n at l =
-    let e : n - 0 ≡ n = omega arith in
-    ap₂ (λ i j. put i (replicate j 0) l) (add-zero at) e
-
-pub zeros-done : (n i at : ℕ) (l : List ℕ) → n ≤ i → put (at + i) (replicate (n - i) 0) l ≡ l
-zeros-done n i at l h =
-    let e : n - i ≡ 0 = omega arith in
-    ap (λ j. put (at + i) (replicate j 0) l) e ∙ sym (put-nil (at + i) l)
 
 -- ---- a place
 module _ (l m1 m2 m3 m4 : List ℕ) (to t n : ℕ) (f : List ℕ) where
@@ -62,57 +41,40 @@ module _ (l m1 m2 m3 m4 : List ℕ) (to t n : ℕ) (f : List ℕ) where
       let z = more-le32 l m1 m4 to t (n ∷ (f ++ replicate (127 - n) 0)) p y in
       z ∙ ap (λ k. put to (le32_bytes t ++ (k ∷ (f ++ replicate (127 - k) 0))) l) (sym e)
 
-module _ (s : List ℕ) (at : ℕ) (y : FrameRead) (p : of_frame s y ≡ frame_field s at) where
-  module _ (t : ℕ) (c : Cursor) (n : ℕ) (q : y ≡ FrameRead.Frame t c n) where
-    frame : Timed
-    frame = record { time = t; frame = take n (drop c.at s) }
+module _ (s : List ℕ) (at : ℕ) (y : Result (TimedFrame × Cursor) Refusal) (p : of_frame y ≡ frame_field s at) where
+  module _ (f : TimedFrame × Cursor) (q : y ≡ Ok f) where
+    is_read : frame_field s at ≡ of_frame (Ok f)
+    is_read = sym p ∙ ap of_frame q
 
-    is_read : frame_field s at ≡ got frame (c.at + n)
-    unfolding frame
-    is_read = sym p ∙ ap (of_frame s) q
-
-    pub frame_is : frame_at s at ≡ record { time = t; frame = take n (drop c.at s) }
-    unfolding frame_at frame
+    pub frame_is : frame_at s at ≡ record { time = f.0.time; frame = f.0.bytes.now }
+    unfolding frame_at
     frame_is = ap (value_or no_frame) is_read
 
-    pub after_is : after_at s at ≡ c.at + n
+    pub after_is : after_at s at ≡ f.1.at
     unfolding after_at
     after_is = ap (next_or at) is_read
 
-    -- the bytes lie within s, and are at most 127
-    pub frame-within : Bytes s → at ≤ length s → (c.at + n ≤ length s) × (n ≤ 127)
-    unfolding frame
-    frame-within b h =
-        let x = frame_back s at frame (c.at + n) b h is_read in
-        let w = x.stands.1.1 in
-        let f = x.fits.short in
-        (w, omega (arith, length-take n (drop c.at s), length-drop c.at s))
+    pub frame-short : Bytes s → at ≤ length s → length f.0.bytes.now ≤ 127
+    frame-short b h = (frame_back s at _ f.1.at b h is_read).fits.short
 
-  pub frame-none : (e : Refusal) → y ≡ FrameRead.Refused e → frame_at s at ≡ no_frame
+  pub frame-none : (e : Refusal) → y ≡ Err e → frame_at s at ≡ no_frame
   unfolding frame_at
-  frame-none e q = ap (value_or no_frame) (sym p ∙ ap (of_frame s) q)
+  frame-none e q = ap (value_or no_frame) (sym p ∙ ap of_frame q)
 
-  pub after_none : (e : Refusal) → y ≡ FrameRead.Refused e → after_at s at ≡ at
+  pub after_none : (e : Refusal) → y ≡ Err e → after_at s at ≡ at
   unfolding after_at
-  after_none e q = ap (next_or at) (sym p ∙ ap (of_frame s) q)
+  after_none e q = ap (next_or at) (sym p ∙ ap of_frame q)
 
 pub none-zeros : place_of no_frame ≡ replicate 132 0
 unfolding place_of le32_bytes le16_bytes
 none-zeros = refl
 
-module _ (s : List ℕ) (from n : ℕ) (h : from + n ≤ length s) (l m1 m2 m3 m4 : List ℕ) (to t : ℕ) where
-  pub used-told : m1 ≡ put to (le32_bytes t) l → m2 ≡ put (to + 4) (byte_bytes n) m1 → m3 ≡ put (to + 5) (take (from + n - from) (drop from s)) m2 → m4 ≡ put (to + 5 + n) (replicate (127 - n) 0) m3 → m4 ≡ put to (place_of (record { time = t; frame = take n (drop from s) })) l
-  used-told p q r u =
-      let e : from + n - from ≡ n = omega arith in
-      let f : length (take n (drop from s)) ≡ n = omega (arith, length-take n (drop from s), length-drop from s) in
-      used-put l m1 m2 m3 m4 to t n (take n (drop from s)) f p q (r ∙ ap (λ k. put (to + 5) (take k (drop from s)) m2) e) u
-
 -- a place, by whether it is used
-module _ (s : List ℕ) (at : ℕ) (y : FrameRead) (p : of_frame s y ≡ frame_field s at) (to : ℕ) (l o : List ℕ) where
-  pub place_read : (t : ℕ) (c : Cursor) (n : ℕ) → y ≡ FrameRead.Frame t c n → o ≡ put to (place_of (record { time = t; frame = take n (drop c.at s) })) l → (u : Bool) → u ≡ true → (c.at + n ≡ choose u (after_at s at) at) × (o ≡ put to (choose u (place_of (frame_at s at)) (replicate 132 0)) l)
-  place_read t c n q e u w = rw w (sym (after_is s at y p t c n q), e ∙ ap (λ x. put to (place_of x) l) (sym (frame_is s at y p t c n q)))
+module _ (s : List ℕ) (at : ℕ) (y : Result (TimedFrame × Cursor) Refusal) (p : of_frame y ≡ frame_field s at) (to : ℕ) (l o : List ℕ) where
+  pub place_read : (f : TimedFrame × Cursor) → y ≡ Ok f → o ≡ put to (place_of (record { time = f.0.time; frame = f.0.bytes.now })) l → (u : Bool) → u ≡ true → (f.1.at ≡ choose u (after_at s at) at) × (o ≡ put to (choose u (place_of (frame_at s at)) (replicate 132 0)) l)
+  place_read f q e u w = rw w (sym (after_is s at y p f q), e ∙ ap (λ x. put to (place_of x) l) (sym (frame_is s at y p f q)))
 
-  pub place-refused : (e : Refusal) → y ≡ FrameRead.Refused e → o ≡ put to (replicate 132 0) l → (u : Bool) → u ≡ true → (at ≡ choose u (after_at s at) at) × (o ≡ put to (choose u (place_of (frame_at s at)) (replicate 132 0)) l)
+  pub place-refused : (e : Refusal) → y ≡ Err e → o ≡ put to (replicate 132 0) l → (u : Bool) → u ≡ true → (at ≡ choose u (after_at s at) at) × (o ≡ put to (choose u (place_of (frame_at s at)) (replicate 132 0)) l)
   place-refused e q z u w = rw w (sym (after_none s at y p e q), z ∙ ap (λ x. put to x l) (sym (ap place_of (frame-none s at y p e q) ∙ none-zeros)))
 
 pub place-unused : (s : List ℕ) (at to : ℕ) (l o : List ℕ) → o ≡ put to (replicate 132 0) l → (u : Bool) → u ≡ false → (at ≡ choose u (after_at s at) at) × (o ≡ put to (choose u (place_of (frame_at s at)) (replicate 132 0)) l)
@@ -200,11 +162,6 @@ behind-within zero s at y h = h
 behind-within (suc n) s at y h = behind-within n s (after_at s at) y (after-within s at y h)
 
 -- ---- what stands where it was put
-put-sets : (at : ℕ) (bs l : List ℕ) → put at bs l ≡ sets l at bs
-unfolding put
-put-sets at [] l = refl
-put-sets at (b ∷ bs) l = put-sets (at + 1) bs (set l at b) ∙ ap (λ k. sets (set l at b) k bs) (add-one at)
-
 pub put-stands : (at n : ℕ) (bs l : List ℕ) → length bs ≡ n → at + n ≤ length l → take (at + n - at) (drop at (put at bs l)) ≡ bs
 put-stands at n bs l e h =
     let g : at + length bs ≤ length l = omega arith in
@@ -240,7 +197,7 @@ module _ (b n : ℕ) (fs : List Timed) (few : length fs ≤ 3) (each : Each fs) 
       more l m3 m4 to 510 (body_of b fs) (le16_bytes (fcs_of (body_of b fs))) body-510 z (w ∙ ap (λ k. put (to + 510) (le16_bytes k) m3) f)
 
 -- ---- block after block
-pub blocks-turn : (left n b : ℕ) (s : List ℕ) (at : ℕ) → 0 < left → n ≡ min 3 left → blocks_from b (frames_at left s at) ≡ block_of b (frames_at n s at) ++ blocks_from (b + 1) (frames_at (left - n) s (behind_at n s at))
+pub blocks-turn : (left n b : ℕ) (s : List ℕ) (at : ℕ) → 0 < left → n ≡ min left 3 → blocks_from b (frames_at left s at) ≡ block_of b (frames_at n s at) ++ blocks_from (b + 1) (frames_at (left - n) s (behind_at n s at))
 unfolding blocks_from frames_at behind_at
 blocks-turn zero n b s at h e = absurd (omega arith)
 blocks-turn (suc zero) n b s at h e = rw e (sym (append-nil _))
@@ -251,7 +208,7 @@ blocks-turn (suc (suc (suc m))) n b s at h e =
     rw k (rw j refl)
 
 -- one block put, from what calls told
-module _ (s : List ℕ) (left n b at to r : ℕ) (l o : List ℕ) (h : 0 < left) (e : n ≡ min 3 left) (y : Bytes s) (w : at ≤ length s) (p : (r ≡ behind_at n s at) × (o ≡ put to (block_of b (frames_at n s at)) l)) where
+module _ (s : List ℕ) (left n b at to r : ℕ) (l o : List ℕ) (h : 0 < left) (e : n ≡ min left 3) (y : Bytes s) (w : at ≤ length s) (p : (r ≡ behind_at n s at) × (o ≡ put to (block_of b (frames_at n s at)) l)) where
   block-512 : length (block_of b (frames_at n s at)) ≡ 512
   block-512 =
       let q = frames-length n s at in
@@ -335,19 +292,19 @@ came-go s y at k (is p) q e c =
     }
 came-go s y at k (refused n) q e c = not-refused _ n (sym c)
 
-module _ (s : List ℕ) (y : Bytes s) (h : Skipped) (p : of_skip h ≡ head s 0) (c : Cursor) (q : h ≡ Skipped.Past c) where
+module _ (s : List ℕ) (y : Bytes s) (h : Result Cursor Refusal) (p : of_skip h ≡ head s 0) (c : Cursor) (q : h ≡ Ok c) where
   start : head s 0 ≡ got tt c.at
   start = sym p ∙ ap of_skip q
 
   pub start-within : c.at ≤ length s
   start-within = (back_head s tt c.at y start).1.1
 
-  module _ (r : Written) (g : of_written r ≡ counted (length s) 0 s 0 c.at) (k : ℕ) (u : r ≡ Written.Bytes k) where
+  module _ (r : Result ℕ Refusal) (g : of_answer r ≡ counted (length s) 0 s 0 c.at) (k : ℕ) (u : r ≡ Ok k) where
     pub came : Came s k c.at
     came =
         let z : length s - 0 ≡ length s = omega arith in
         came-go s y c.at k (frames_field (length s) 0 s c.at) refl start
-        (sym (ap of_written u) ∙ g ∙ ap (λ n. and_then (frames_field n 0 s c.at) (λ p. is (0 + length p.value))) z)
+        (sym (ap of_answer u) ∙ g ∙ ap (λ n. and_then (frames_field n 0 s c.at) (λ p. is (0 + length p.value))) z)
 
     pub came-short : (room : List ℕ) → length room < 512 * ((k + 2) / 3) → (refused 7 ≡ sized (from_pcap s) room) × (room ≡ placed (from_pcap s) room)
     came-short room w = move-short (from_pcap s) (512 * ((k + 2) / 3)) room (ap is came.size ∙ sym (ap lengthed came.move)) w

@@ -1,13 +1,14 @@
 -- What the moves keep.
+use Rattle.octets.specs.Answers.{of_answer}
+use Rattle.std.specs.Prelude.{Result}
+use Rattle.octets.specs.declared.refusal.Refusal.{Refusal}
 use mathlib.Core.Path.{◌≡◌, refl, sym, ap, ◌∙◌}
 use mathlib.Core.List.{List, [], append-nil}
 use Prim.Native.Nat.{ℕ}
 use native.Mathlib.Omega.{arith}
 use Rattle.octets.specs.Read.{Answer, is, refused, and_then}
-use Rattle.octets.specs.Write.{of_written}
-use Rattle.octets.specs.declared.write.Written.{Written}
 use Rattle.octets.proofs.Spans.{not-refused}
-use Rattle.octets.proofs.Unique.{unique, written_one}
+use Rattle.octets.proofs.Unique.{unique, answer-one}
 use Rattle.capture.specs.Block.{Timed}
 use Rattle.capture.specs.Made.{Bytes}
 use Rattle.pcap.specs.Frames.{blocks_from, blocks_of, frames_from, frames_of_capture, head_bytes, frames_bytes, pcap_of, frames_of_pcap}
@@ -77,5 +78,5 @@ bare-back =
     ap (λ a. and_then a (λ fs. is (blocks_of fs))) r
 
 -- any two answers that meet a move's contract are equal, and so is the room after them
-pub move-one : (a : Answer (List ℕ)) (room : List ℕ) (y z : Written) (l m : List ℕ) → (of_written y ≡ sized a room) × (l ≡ placed a room) → (of_written z ≡ sized a room) × (m ≡ placed a room) → (y ≡ z) × (l ≡ m)
-move-one a room y z l m p q = (unique of_written written_one (sized a room) y z p.0 q.0, p.1 ∙ sym q.1)
+pub move-one : (a : Answer (List ℕ)) (room : List ℕ) (y z : Result ℕ Refusal) (l m : List ℕ) → (of_answer y ≡ sized a room) × (l ≡ placed a room) → (of_answer z ≡ sized a room) × (m ≡ placed a room) → (y ≡ z) × (l ≡ m)
+move-one a room y z l m p q = (unique of_answer answer-one (sized a room) y z p.0 q.0, p.1 ∙ sym q.1)

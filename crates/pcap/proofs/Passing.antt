@@ -1,4 +1,6 @@
 -- What the functions that move a block at a time need.
+use Rattle.octets.specs.Answers.{of_answer}
+use Rattle.std.specs.Prelude.{Result, Ok, Err}
 use Prim.Native.Nat.{ℕ, zero, suc, ◌+◌, ◌/◌, ◌^◌, ◌≤◌, ◌<◌}
 use native.Mathlib.Nat.{add-zero}
 use native.Mathlib.Omega.{arith}
@@ -10,9 +12,8 @@ use lib.ListN.{length}
 use borrow.Author.Tests.{le-leb, lt-leb, leb-true, ltb-true}
 use Rattle.octets.specs.Read.{Answer, is, refused, Read, got, and_then, choose, give}
 use Rattle.octets.specs.Refusal.{number_of}
-use Rattle.octets.specs.Write.{put, of_written}
+use Rattle.octets.specs.Write.{put}
 use Rattle.octets.specs.declared.refusal.Refusal.{Refusal}
-use Rattle.octets.specs.declared.write.Written.{Written}
 use Rattle.octets.proofs.Puts.{put_front}
 use Rattle.octets.proofs.Spans.{not-refused}
 use Rattle.capture.specs.Block.{Timed, good_block, judged}
@@ -125,13 +126,13 @@ unfolding come_block
 none-go k s x (is p) q e = not-refused _ x e
 none-go k s x (refused z) q e = rw q (let h : z ≡ x = cc in ap refused h)
 
-module _ (k : ℕ) (s room : List ℕ) (w : Written) (g : of_written w ≡ counted 3 k s 0 0) where
-  pub refused-comes : (e : Refusal) → w ≡ Written.Refused e → (a : Answer ℕ) (u d : ℕ) → (d ≡ k) × ((u ≡ 0) × (a ≡ refused (number_of e))) → Comes k s room a u d room
-  refused-comes e q a u d p = rw (none-go k s (number_of e) (frames_field 3 k s 0) refl (sym (ap of_written q) ∙ g ∙ three-left k s)) (p.1.1, (p.1.0, (p.0, refl)))
+module _ (k : ℕ) (s room : List ℕ) (w : Result ℕ Refusal) (g : of_answer w ≡ counted 3 k s 0 0) where
+  pub refused-comes : (e : Refusal) → w ≡ Err e → (a : Answer ℕ) (u d : ℕ) → (d ≡ k) × ((u ≡ 0) × (a ≡ refused (number_of e))) → Comes k s room a u d room
+  refused-comes e q a u d p = rw (none-go k s (number_of e) (frames_field 3 k s 0) refl (sym (ap of_answer q) ∙ g ∙ three-left k s)) (p.1.1, (p.1.0, (p.0, refl)))
 
-  module _ (n : ℕ) (q : w ≡ Written.Bytes n) where
+  module _ (n : ℕ) (q : w ≡ Ok n) where
     told : Counted k s n
-    told = counted-go k s n (frames_field 3 k s 0) refl (sym (ap of_written q) ∙ g ∙ three-left k s)
+    told = counted-go k s n (frames_field 3 k s 0) refl (sym (ap of_answer q) ∙ g ∙ three-left k s)
 
     few : Few 3 k told.frames s told.next
     few = frames-few 3 k s 0 told.frames told.next told.are-read

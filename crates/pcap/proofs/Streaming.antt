@@ -1,4 +1,7 @@
 -- A block at a time gives what the whole move gives: `stream-to` and `stream-from`.
+use Rattle.octets.specs.Answers.{of_answer}
+use Rattle.std.specs.Prelude.{Result}
+use Rattle.octets.specs.declared.refusal.Refusal.{Refusal}
 use Prim.Native.Nat.{ℕ, zero, suc, ◌+◌, ◌*◌, ◌-◌, ◌/◌, ◌≤◌, ◌<◌}
 use native.Mathlib.Omega.{arith}
 use mathlib.Core.Path.{◌≡◌, refl, sym, ap, ap₂, subst, ◌∙◌}
@@ -8,9 +11,7 @@ use lib.Dec.{leb, ltb}
 use lib.ListN.{length, take, drop, length-drop}
 use borrow.Author.Tests.{le-leb, leb-true, ltb-true, ltb-false}
 use Rattle.octets.specs.Read.{Answer, is, refused, Read, got, and_then, choose, give}
-use Rattle.octets.specs.Write.{of_written}
-use Rattle.octets.specs.declared.write.Written.{Written}
-use Rattle.octets.proofs.Unique.{unique, written_one}
+use Rattle.octets.proofs.Unique.{unique, answer-one}
 use Rattle.capture.specs.Block.{Timed, frames_of, judged}
 use Rattle.capture.specs.File as file
 use Rattle.capture.specs.Made.{block_of, Bytes}
@@ -222,20 +223,20 @@ module _ (ws p : List ℕ) (y : Bytes p) (v : Wide ws) (l : length p ≤ length 
   stream-from w h = ap (λ r. and_then r (λ q. come_all ws 0 (drop q.next p))) (head-window w p h) ∙ head-go (head p 0) refl
 
 -- ---- any two answers that meet a contract are equal, and so is the room after them
-abbrev went_of : Written → ℕ → WentOn
+abbrev went_of : Result ℕ Refusal → ℕ → WentOn
 went_of a b = record { after = record { block = b }; answer = a }
 
-abbrev came_of : Written → ℕ → ℕ → CameOn
+abbrev came_of : Result ℕ Refusal → ℕ → ℕ → CameOn
 came_of a u d = record { after = record { frames = d }; used = u; answer = a }
 
 module _ (a : Answer (List ℕ)) (b : ℕ) (room : List ℕ) (y z : WentOn) (l m : List ℕ) where
-  pub went-one : (of_written y.answer ≡ sized a room) × ((y.after.block ≡ due_after b (sized a room)) × (l ≡ placed a room)) → (of_written z.answer ≡ sized a room) × ((z.after.block ≡ due_after b (sized a room)) × (m ≡ placed a room)) → (y ≡ z) × (l ≡ m)
+  pub went-one : (of_answer y.answer ≡ sized a room) × ((y.after.block ≡ due_after b (sized a room)) × (l ≡ placed a room)) → (of_answer z.answer ≡ sized a room) × ((z.after.block ≡ due_after b (sized a room)) × (m ≡ placed a room)) → (y ≡ z) × (l ≡ m)
   went-one p q =
-      let x = unique of_written written_one (sized a room) y.answer z.answer p.0 q.0 in
+      let x = unique of_answer answer-one (sized a room) y.answer z.answer p.0 q.0 in
       (ap₂ went_of x (p.1.0 ∙ sym q.1.0), p.1.1 ∙ sym q.1.1)
 
 module _ (a : Answer Made) (k : ℕ) (room : List ℕ) (y z : CameOn) (l m : List ℕ) where
-  pub came-one : (of_written y.answer ≡ length_in a) × ((y.used ≡ used_in a) × ((y.after.frames ≡ frames_in k a) × (l ≡ placed_in a room))) → (of_written z.answer ≡ length_in a) × ((z.used ≡ used_in a) × ((z.after.frames ≡ frames_in k a) × (m ≡ placed_in a room))) → (y ≡ z) × (l ≡ m)
+  pub came-one : (of_answer y.answer ≡ length_in a) × ((y.used ≡ used_in a) × ((y.after.frames ≡ frames_in k a) × (l ≡ placed_in a room))) → (of_answer z.answer ≡ length_in a) × ((z.used ≡ used_in a) × ((z.after.frames ≡ frames_in k a) × (m ≡ placed_in a room))) → (y ≡ z) × (l ≡ m)
   came-one p q =
-      let x = unique of_written written_one (length_in a) y.answer z.answer p.0 q.0 in
+      let x = unique of_answer answer-one (length_in a) y.answer z.answer p.0 q.0 in
       (ap (λ i. came_of i y.used y.after.frames) x ∙ ap₂ (λ u d. came_of z.answer u d) (p.1.0 ∙ sym q.1.0) (p.1.1.0 ∙ sym q.1.1.0), p.1.1.1 ∙ sym q.1.1.1)

@@ -1,14 +1,10 @@
 -- Frames of pcap, one after the other from a place on, as they go into blocks.
 use Rattle.std.specs.Prelude.{ℕ, zero, suc, List, [], ◌∷◌, ◌++◌}
-use Rattle.octets.specs.Read.{is, refused, Read}
+use Rattle.octets.specs.Read.{is, refused, Read, value_or}
 use Rattle.octets.specs.Write.{le32_bytes}
 use Rattle.capture.specs.Block.{Timed}
 use Rattle.capture.specs.Made.{no_frame, place_in}
 use Rattle.pcap.specs.Frames.{frame_field}
-
-abbrev pub value_or : {A : Type 0} → A → Read A → A
-value_or a (is p) = p.value
-value_or a (refused n) = a
 
 abbrev pub next_or : {A : Type 0} → ℕ → Read A → ℕ
 next_or at (is p) = p.next

@@ -1,67 +1,52 @@
 // Pcap to a capture of blocks.
+ghost use Rattle.octets.specs.Answers.{of_answer};
 ghost use Rattle.std.specs.Prelude.{◌≡◌, length};
-ghost use Rattle.octets.specs.Write.{of_written};
 ghost use Rattle.pcap.specs.Moves.{from_pcap, sized, placed, counted};
 ghost use Rattle.pcap.specs.Streaming.{Comes};
 
 use super::fill::{put_block, put_blocks};
-use super::read::{FrameRead, frame, head};
+use super::read::{frame, head};
 use capture::block::BLOCK;
-use octets::cursor::{Cursor, Skipped};
+use octets::cursor::Cursor;
 use octets::refusal::Refusal;
-use octets::write::Written;
 
 // How many frames fit into blocks: three to a block, and 2^32 block numbers.
 const MOST: u64 = 0x3_0000_0000;
 
 // How many frames there are from a place on, at most so many, where k were read before; or why they are none.
-fn count(s: &[u8], c: Cursor, k: u64, most: usize) -> Written
-    ensures { of_written result ≡ counted most k s.now 0 c.at }
+fn count(s: &[u8], c: Cursor, k: u64, most: usize) -> Result<usize, Refusal>
+    ensures { of_answer result ≡ counted most k s.now 0 c.at }
 {
-    let mut n: usize = 0;
     let mut number = k;
     let mut at = c.at;
-    while n < most {
+    for n in 0..most {
         if s.len() <= at {
-            return Written::Bytes(n);
+            return Ok(n);
         }
-        match frame(s, Cursor { at }) {
-            FrameRead::Frame(_, d, len) => {
-                if MOST <= number {
-                    return Written::Refused(Refusal::NotHeld);
-                }
-                at = d.at + len;
-                number += 1;
-                n += 1;
-            }
-            FrameRead::Refused(e) => {
-                return Written::Refused(e);
-            }
+        let (_, next) = frame(s, Cursor { at })?;
+        if MOST <= number {
+            return Err(Refusal::NotHeld);
         }
+        at = next.at;
+        number += 1;
     }
-    Written::Bytes(n)
+    Ok(most)
 }
 
 // Moves pcap to a capture of blocks, at the front of the room, and answers its length. What is refused is refused in
 // the order of the fields, and last a room that is too small, 7. A refusal writes nothing.
-pub fn from_pcap(pcap: &[u8], out: &mut [u8]) -> Written
-    ensures { (of_written result ≡ sized (from_pcap pcap.now) out.old)
+pub fn from_pcap(pcap: &[u8], out: &mut [u8]) -> Result<usize, Refusal>
+    ensures { (of_answer result ≡ sized (from_pcap pcap.now) out.old)
         × (out.new ≡ placed (from_pcap pcap.now) out.old) }
 {
-    match head(pcap, Cursor::START) {
-        Skipped::Past(c) => match count(pcap, c, 0, pcap.len()) {
-            Written::Bytes(k) => {
-                let n = BLOCK * ((k + 2) / 3);
-                if out.len() < n {
-                    return Written::Refused(Refusal::NoRoom);
-                }
-                put_blocks(pcap, c.at, k, out);
-                Written::Bytes(n)
-            }
-            Written::Refused(e) => Written::Refused(e),
-        },
-        Skipped::Refused(e) => Written::Refused(e),
+    let c = head(pcap, Cursor::START)?;
+    let k = count(pcap, c, 0, pcap.len())?;
+    let n = BLOCK * ((k + 2) / 3);
+    if out.len() < n {
+        return Err(Refusal::NoRoom);
     }
+    put_blocks(pcap, c.at, k, out);
+    Ok(n)
 }
 
 // Pcap that comes a block at a time: how many of its frames were moved.
@@ -75,12 +60,13 @@ pub struct FromPcap {
 pub struct CameOn {
     pub after: FromPcap,
     pub used: usize,
-    pub answer: Written,
+    pub answer: Result<usize, Refusal>,
 }
 
 // Nothing was used, and what is due stays.
-fn stay(frames: u64, answer: Written) -> CameOn
-    ensures { (result.after.frames ≡ frames) × ((result.used ≡ 0) × (of_written result.answer ≡ of_written answer)) }
+fn stay(frames: u64, answer: Result<usize, Refusal>) -> CameOn
+    ensures { (result.after.frames ≡ frames)
+        × ((result.used ≡ 0) × (of_answer result.answer ≡ of_answer answer)) }
 {
     CameOn {
         after: FromPcap { frames },
@@ -95,15 +81,15 @@ fn stay(frames: u64, answer: Written) -> CameOn
 // what is due stays.
 pub fn one_block(c: FromPcap, part: &[u8], out: &mut [u8]) -> CameOn
     ensures { Comes c.frames part.now out.old
-        (of_written result.answer) result.used result.after.frames out.new }
+        (of_answer result.answer) result.used result.after.frames out.new }
 {
     match count(part, Cursor::START, c.frames, 3) {
-        Written::Bytes(n) => {
+        Ok(n) => {
             if n == 0 {
-                return stay(c.frames, Written::Bytes(0));
+                return stay(c.frames, Ok(0));
             }
             if out.len() < BLOCK {
-                return stay(c.frames, Written::Refused(Refusal::NoRoom));
+                return stay(c.frames, Err(Refusal::NoRoom));
             }
             let used = put_block(part, 0, n, (c.frames / 3) as u32, out, 0);
             CameOn {
@@ -111,9 +97,9 @@ pub fn one_block(c: FromPcap, part: &[u8], out: &mut [u8]) -> CameOn
                     frames: c.frames + n as u64,
                 },
                 used,
-                answer: Written::Bytes(BLOCK),
+                answer: Ok(BLOCK),
             }
         }
-        Written::Refused(e) => stay(c.frames, Written::Refused(e)),
+        Err(e) => stay(c.frames, Err(e)),
     }
 }

@@ -1,4 +1,5 @@
 // Bytes and frames put into lent room that is large enough.
+// `buf, at` is the lent room and a place in it, as the writers of octets take them.
 ghost use Rattle.std.specs.Prelude.{◌≡◌, ◌+◌, ◌≤◌, length};
 ghost use Rattle.octets.specs.Write.{put};
 ghost use Rattle.pcap.specs.Frames.{head_bytes, frame_bytes};
@@ -21,11 +22,7 @@ pub fn put_all(buf: &mut [u8], at: usize, s: &[u8])
     requires { at + length s.now ≤ length buf.old }
     ensures { buf.new ≡ put at s.now buf.old }
 {
-    let mut i = 0;
-    while i < s.len() {
-        buf[at + i] = s[i];
-        i += 1;
-    }
+    buf[at..at + s.len()].copy_from_slice(s);
 }
 
 pub fn put_head(buf: &mut [u8])
@@ -41,6 +38,7 @@ pub fn put_head(buf: &mut [u8])
 }
 
 // A frame in pcap; the place after it.
+// (127 is a clause: the frame is a part of a lent block, or of lent pcap.)
 pub fn put_frame(buf: &mut [u8], at: usize, time: u32, frame: &[u8]) -> usize
     requires { (at + 16 + length frame.now ≤ length buf.old) × (length frame.now ≤ 127) }
     ensures { (result ≡ at + (16 + length frame.now))

@@ -1,4 +1,5 @@
 -- Demand 3 over frames: runs of the public call `receive`, by the theorem on runs of calls (proofs/Runs.antt).
+use Rattle.std.specs.Prelude.{Ok}
 use Prim.Native.Nat.{ℕ, ◌+◌, ◌≤◌}
 use native.Mathlib.Omega.{arith}
 use mathlib.Core.Path.{◌≡◌, refl, sym, ap, ◌∙◌}
@@ -186,12 +187,12 @@ kept_in k (h ∷ hs) σ F L A B = (
 
 -- what `receive` answers then, and the output
 kept-so : (k : Key) (hs : List Turn) (σ : State) → Ran σ hs → KeptIn k σ hs
-    → (h : Turn) → In h hs → named h.frame ≡ is k → (h.returned.answer ≡ Outcome.Kept) × (h.output ≡ h.before)
+    → (h : Turn) → In h hs → named h.frame ≡ is k → (h.returned.answer ≡ Ok Outcome.Kept) × (h.output ≡ h.before)
 unfolding Ran KeptIn
 kept-so k [] σ R A h i n = absurd i
 kept-so k (x ∷ hs) σ R A h (inl z) n =
     let e = A.0 (rw z at n) in
-    rw z (outcome-one x.returned.answer Outcome.Kept (R.0.answer ∙ ap told e), R.0.output ∙ ap (λ (z : Reply (List ℕ)). output_after z x.before) e)
+    rw z (outcome-one x.returned.answer (Ok Outcome.Kept) (R.0.answer ∙ ap told e), R.0.output ∙ ap (λ (z : Reply (List ℕ)). output_after z x.before) e)
 kept-so k (x ∷ hs) σ R A h (inr i) n = kept-so k hs (left x) R.1 A.1 h i n
 
 -- a datagram that is handed out stands at the output's start
@@ -344,7 +345,7 @@ module _ (gs : List Source) (m : List ℕ) (k : Key) (d : List ℕ) (C : Cutting
     unfolding Ran
     concluded D = record {
       none_before = kept-so k mid σ₁ (ran-left mid (c ∷ []) σ₁ ran₁) D.none_before;
-      answer = outcome-one c.returned.answer (Outcome.Out (length d)) (ran₂.0.answer ∙ ap told D.exactly);
+      answer = outcome-one c.returned.answer (Ok (Outcome.Out (length d))) (ran₂.0.answer ∙ ap told D.exactly);
       output = out-front d c.before c.output _ ran₂.0.output D.exactly D.room;
     }
 
@@ -418,7 +419,7 @@ module _ (gs : List Source) (m : List ℕ) (W : Gateways gs) (room : 16384 ≤ l
         out-told n (refused r) e = let z : ◌≡◌ {A = ℕ} 0 1 = cc in absurd (omega arith)
 
   module _ (R : Ran (begun gs m) (hs ++ (h ∷ []))) where
-    apart : (p : Part) → MeansPart h p → (n : ℕ) → h.returned.answer ≡ Outcome.Out n → HandedOut gs m p.key hs h n
+    apart : (p : Part) → MeansPart h p → (n : ℕ) → h.returned.answer ≡ Ok (Outcome.Out n) → HandedOut gs m p.key hs h n
     unfolding Ran
     apart p b n a =
         let G = (ran-right hs (h ∷ []) (begun gs m) R).0 in

@@ -1,10 +1,10 @@
 -- The ported key (sixlowpan's `Key`, as the Rust has it) and the table's, which has the sender's PAN too: two parts are of one datagram to the table
 -- exactly where they are to the port and their senders' PANs are one.
+use Rattle.std.specs.Prelude.{Some}
 use Prim.Native.Nat.{ℕ}
 use mathlib.Core.Path.{◌≡◌, refl, ap}
 use Rattle.octets.specs.Read.{is}
 use Rattle.ieee802154.specs.declared.addr.Address.{Address}
-use Rattle.ieee802154.specs.declared.addr.AddressField.{AddressField}
 use Rattle.ieee802154.specs.declared.header.Repr as Mac
 use Rattle.sixlowpan.specs.Frag.{size_of, tag_of}
 use Rattle.sixlowpan.specs.Key as Ported
@@ -20,7 +20,7 @@ abbrev pub ported_of : Arrival → Frag.Repr → PortedKey.Key
 ported_of a h = record { ll_src_addr = a.src; ll_dst_addr = a.dst; datagram_size = size_of h; datagram_tag = tag_of h }
 
 -- it is what `frag::Repr::key` answers for a MAC header of these addresses
-pub ported-is : (h : Frag.Repr) (m : Mac.Repr) (a : Arrival) → m.src_addr ≡ AddressField.Some a.src → m.dst_addr ≡ AddressField.Some a.dst
+pub ported-is : (h : Frag.Repr) (m : Mac.Repr) (a : Arrival) → m.src_addr ≡ Some a.src → m.dst_addr ≡ Some a.dst
     → Ported.key_of h m ≡ is (ported_of a h)
 unfolding Ported.key_of
 ported-is h m a e f = rw (e, f) refl

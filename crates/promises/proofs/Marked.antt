@@ -1,18 +1,17 @@
 -- The marked examples of the scope document, one statement over the list.
+use Rattle.ieee802154.specs.declared.addr.Address.{Address}
+use Rattle.iphc.specs.declared.label.FlowLabel.{FlowLabel}
+use Rattle.std.specs.Prelude.{Option, Some, None}
 use Prim.Native.Nat.{ℕ, ◌≤◌, ◌<◌}
 use mathlib.Core.List.{List, [], ◌∷◌}
 use mathlib.Core.Bool.{true, false}
 use mathlib.Core.Path.{◌≡◌}
 use Rattle.octets.specs.Read.{Read, got, refused}
 use Rattle.octets.specs.Ipv6.{ip}
-use Rattle.octets.specs.declared.field.ByteField.{ByteField}
-use Rattle.octets.specs.declared.field.WordField.{WordField}
 use Rattle.octets.specs.declared.ipv6.Ipv6Addr.{Ipv6Addr}
 use Rattle.ieee802154.specs.Mac.{mac}
 use Rattle.ieee802154.specs.Mac as Mac
 use Rattle.ieee802154.specs.declared.addr.Address.TheVariants.{Absent, Short, Extended}
-use Rattle.ieee802154.specs.declared.addr.AddressField.{AddressField}
-use Rattle.ieee802154.specs.declared.addr.PanField.{PanField}
 use Rattle.ieee802154.specs.declared.header.Repr as MacRepr
 use Rattle.ieee802154.proofs.Examples.{k11}
 use Rattle.iphc.specs.Iphc.{iphc}
@@ -21,7 +20,6 @@ use Rattle.sixlowpan.specs.NhcUdp.{udp_nhc_bytes}
 use Rattle.sixlowpan.specs.NhcExt.{ext, ext_bytes}
 use Rattle.sixlowpan.specs.declared.protocol.NextHeader.TheVariants.{Uncompressed}
 use Rattle.sixlowpan.specs.declared.frag.Repr.TheVariants.{FirstFragment, Fragment}
-use Rattle.iphc.specs.declared.label.LabelField.{LabelField}
 use Rattle.iphc.specs.declared.header.Repr as IphcRepr
 use Rattle.sixlowpan.specs.declared.nhc.UdpNhcRepr.{UdpNhcRepr}
 use Rattle.sixlowpan.specs.declared.nhc.ExtHeaderId.TheVariants.{Reserved}
@@ -38,18 +36,18 @@ use Rattle.reassembly.proofs.Promises.{k12-held, k12-gone}
 use Rattle.reassembly.proofs.Ageing.{k12-still, k12-freed}
 
 -- "With source ext 0011223344556677, destination short abcd"; no contexts
-abbrev source : AddressField
-source = AddressField.Some (Extended 0x0011_2233_4455_6677)
+abbrev source : Option Address
+source = Some (Extended 0x0011_2233_4455_6677)
 
-abbrev destination : AddressField
-destination = AddressField.Some (Short 0xabcd)
+abbrev destination : Option Address
+destination = Some (Short 0xabcd)
 
 -- what the reader of compressed headers answers
-abbrev reads : AddressField → List ℕ → Read IphcRepr.Repr
+abbrev reads : Option Address → List ℕ → Read IphcRepr.Repr
 reads src s = iphc [] src destination s 0
 
 -- the header of these addresses, next header and hop limit, with an ECN and a flow label
-abbrev classed : ByteField → LabelField → Ipv6Addr → Ipv6Addr → ℕ → ℕ → IphcRepr.Repr
+abbrev classed : Option ℕ → Option FlowLabel → Ipv6Addr → Ipv6Addr → ℕ → ℕ → IphcRepr.Repr
 classed e label a b next hop =
     record {
       src_addr = a;
@@ -59,19 +57,19 @@ classed e label a b next hop =
       next_header = Uncompressed (record { 0 = next });
       hop_limit = hop;
       ecn = e;
-      dscp = ByteField.None;
+      dscp = None;
       flow_label = label;
     }
 
 -- and with none
 abbrev header : Ipv6Addr → Ipv6Addr → ℕ → ℕ → IphcRepr.Repr
-header = classed ByteField.None LabelField.None
+header = classed None None
 
 -- fe80::211:2233:4455:6677
 abbrev from : Ipv6Addr
 from = ip 0xfe80_0000_0000_0000 0x0211_2233_4455_6677
 
-abbrev udp : ℕ → ℕ → WordField → UdpNhcRepr
+abbrev udp : ℕ → ℕ → Option ℕ → UdpNhcRepr
 udp s d sum = record { src_port = s; dst_port = d; checksum = sum }
 
 abbrev reserved : ExtHeaderRepr
@@ -85,13 +83,13 @@ frame =
       security_enabled = false;
       frame_pending = false;
       ack_request = false;
-      sequence_number = ByteField.Some 5;
+      sequence_number = Some 5;
       pan_id_compression = true;
       frame_version = record { 0 = 0 };
-      dst_pan_id = PanField.Some (record { 0 = 0xabcd });
-      dst_addr = AddressField.Some (Short 0xffff);
-      src_pan_id = PanField.None;
-      src_addr = AddressField.Some (Short 0x1234);
+      dst_pan_id = Some (record { 0 = 0xabcd });
+      dst_addr = Some (Short 0xffff);
+      src_pan_id = None;
+      src_addr = Some (Short 0x1234);
     }
 
 abbrev frame_bytes : List ℕ
@@ -111,14 +109,14 @@ pub record Marked : Type 0 where
   pub k2 : reads source (0x7b ∷ 0x3b ∷ 0x3a ∷ 0x01 ∷ []) ≡ got (header from (ip 0xff02_0000_0000_0000 1) 58 255) 4
   pub k3 : reads source (0x7b ∷ 0x3b ∷ 0x3a ∷ []) ≡ refused 1
   pub k4 : reads source (0x7b ∷ 0x34 ∷ 0x3a ∷ []) ≡ refused 3
-  pub k4-none : reads AddressField.None (0x7b ∷ 0x34 ∷ 0x3a ∷ []) ≡ refused 6
-  pub k4-absent : reads (AddressField.Some Absent) (0x7b ∷ 0x34 ∷ 0x3a ∷ []) ≡ refused 6
+  pub k4-none : reads None (0x7b ∷ 0x34 ∷ 0x3a ∷ []) ≡ refused 6
+  pub k4-absent : reads (Some Absent) (0x7b ∷ 0x34 ∷ 0x3a ∷ []) ≡ refused 6
   pub k5 : reads source (0x7b ∷ 0x73 ∷ 0x3a ∷ []) ≡ refused 5
-  pub k5-none : reads AddressField.None (0x7b ∷ 0x73 ∷ 0x3a ∷ []) ≡ refused 6
-  pub k5-absent : reads (AddressField.Some Absent) (0x7b ∷ 0x73 ∷ 0x3a ∷ []) ≡ refused 6
-  pub k6 : udp_nhc_bytes (udp 0xf0b1 0xf0b2 (WordField.Some 0x1234)) ≡ 0xf3 ∷ 0x12 ∷ 0x12 ∷ 0x34 ∷ []
-  pub k7 : udp_nhc_bytes (udp 0xf0b1 0xf0c0 (WordField.Some 0x1234)) ≡ 0xf2 ∷ 0xb1 ∷ 0xf0 ∷ 0xc0 ∷ 0x12 ∷ 0x34 ∷ []
-  pub k8 : udp_nhc_bytes (udp 0x0050 0xf000 WordField.None) ≡ 0xf5 ∷ 0x00 ∷ 0x50 ∷ 0x00 ∷ []
+  pub k5-none : reads None (0x7b ∷ 0x73 ∷ 0x3a ∷ []) ≡ refused 6
+  pub k5-absent : reads (Some Absent) (0x7b ∷ 0x73 ∷ 0x3a ∷ []) ≡ refused 6
+  pub k6 : udp_nhc_bytes (udp 0xf0b1 0xf0b2 (Some 0x1234)) ≡ 0xf3 ∷ 0x12 ∷ 0x12 ∷ 0x34 ∷ []
+  pub k7 : udp_nhc_bytes (udp 0xf0b1 0xf0c0 (Some 0x1234)) ≡ 0xf2 ∷ 0xb1 ∷ 0xf0 ∷ 0xc0 ∷ 0x12 ∷ 0x34 ∷ []
+  pub k8 : udp_nhc_bytes (udp 0x0050 0xf000 None) ≡ 0xf5 ∷ 0x00 ∷ 0x50 ∷ 0x00 ∷ []
   pub k9 : Frag.bytes_of (FirstFragment 1280 7) ≡ 0xc5 ∷ 0x00 ∷ 0x00 ∷ 0x07 ∷ []
   pub k9-next : Frag.bytes_of (Fragment 1280 7 (record { 0 = 12 })) ≡ 0xe5 ∷ 0x00 ∷ 0x00 ∷ 0x07 ∷ 0x0c ∷ []
   pub k10 : ext (0xec ∷ 0x3a ∷ 0x04 ∷ []) 0 ≡ got reserved 3
@@ -162,5 +160,5 @@ marked =
 
 -- 02, item 1: "With TF=01 the bytes 4a bc de must give ecn 40 (bits 01) and label abcde"; fe80::211:2233:4455:6677 to fe80::ff:fe00:abcd, next
 -- 58, hop 255, 6 bytes
-pub whole-label : reads source (0x6b ∷ 0x33 ∷ 0x4a ∷ 0xbc ∷ 0xde ∷ 0x3a ∷ []) ≡ got (classed (ByteField.Some 0x40) (LabelField.Some (record { 0 = 0xabcde })) from (ip 0xfe80_0000_0000_0000 0x0000_00ff_fe00_abcd) 58 255) 6
+pub whole-label : reads source (0x6b ∷ 0x33 ∷ 0x4a ∷ 0xbc ∷ 0xde ∷ 0x3a ∷ []) ≡ got (classed (Some 0x40) (Some (record { 0 = 0xabcde })) from (ip 0xfe80_0000_0000_0000 0x0000_00ff_fe00_abcd) 58 255) 6
 whole-label = labels.0

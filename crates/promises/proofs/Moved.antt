@@ -1,5 +1,7 @@
 -- A reader answers by the bytes from its place on: with other bytes in front, and its place moved by as many, it gives the same value, or the
 -- same refusal, and ends as far behind its place.
+use Rattle.ieee802154.specs.declared.addr.Address.{Address}
+use Rattle.std.specs.Prelude.{Option, Some, None}
 use Prim.Native.Nat.{ℕ, zero, suc, ◌+◌, ◌*◌, ◌/◌, ◌%◌, ◌^◌, ◌≤◌}
 use native.Mathlib.Nat.{add_assoc}
 use native.Mathlib.Omega.{arith}
@@ -11,15 +13,11 @@ use lib.ListN.{length, get_or, take, drop, length-append}
 use lib.Seq.{get_or-append-add, drop-append-add}
 use borrow.Author.Tests.{lt-ltb, le-ltb, ltb-true, ltb-false, le-leb, lt-leb, leb-true, leb-false}
 use Rattle.octets.specs.Read.{Answer, is, refused, Read, Reader, got, and_then, choose, branch, ◌>>=◌, give, refuse, byte, be16, be32, be64, skip}
-use Rattle.octets.specs.declared.field.ByteField.{ByteField}
-use Rattle.octets.specs.declared.field.WordField.{WordField}
 use Rattle.octets.specs.Ipv6.{ip}
-use Rattle.ieee802154.specs.declared.addr.AddressField.{AddressField}
 use Rattle.iphc.specs.Iphc as Iphc
 use Rattle.iphc.specs.declared.read.Base.{Base}
 use Rattle.iphc.specs.declared.read.Contexts.{Contexts}
 use Rattle.iphc.specs.declared.read.Traffic.{Traffic}
-use Rattle.iphc.specs.declared.label.LabelField.{LabelField}
 use Rattle.expand.specs.Full.{is_absent}
 use Rattle.expand.specs.Chain.{Chain, rest, udp_then, extension, ipv6, Link, udp_link, ext_link, inner_link, Around, full_number, bad_length, octets, ext_data, ext_body, inner_byte, ext_kind, udp_step, link_of, link, within, past, inside, remaining, behind_next, header_then, udp_end, onward, chain, chained}
 use Rattle.expand.specs.Expand.{sized, expansion}
@@ -123,7 +121,7 @@ moves-ports p =
 
 moves-checksum : (e : ℕ) → Moves (checksum e)
 unfolding checksum
-moves-checksum e = moves-branch (eqb e 0) _ (give WordField.None) (moves-map be16 WordField.Some moves-be16) (moves-give WordField.None)
+moves-checksum e = moves-branch (eqb e 0) _ (give None) (moves-map be16 Some moves-be16) (moves-give None)
 
 moves-udp-rest : (b : ℕ) → Moves (udp_rest b)
 unfolding udp_rest
@@ -160,9 +158,9 @@ moves-contexts : (cid : ℕ) → Moves (Iphc.contexts cid)
 unfolding Iphc.contexts
 moves-contexts cid = moves-branch (eqb cid 0) (give _) _ (moves-give _) (moves-map byte (λ b. record { src = b / 16; dst = b % 16 }) moves-byte)
 
-moves-labelled : (high : ℕ) (e d : ByteField) → Moves (Iphc.labelled high e d)
+moves-labelled : (high : ℕ) (e d : Option ℕ) → Moves (Iphc.labelled high e d)
 unfolding Iphc.labelled
-moves-labelled high e d = moves-map be16 (λ low. Iphc.traffic_of e d (LabelField.Some (Iphc.label_of high low))) moves-be16
+moves-labelled high e d = moves-map be16 (λ low. Iphc.traffic_of e d (Some (Iphc.label_of high low))) moves-be16
 
 moves-traffic : (tf : ℕ) → Moves (Iphc.traffic tf)
 unfolding Iphc.traffic Iphc.class_and_label Iphc.ecn_and_label Iphc.class_only
@@ -170,8 +168,8 @@ moves-traffic tf =
     moves-branch (eqb tf 0b00) _ _
     (moves-then byte (λ b. ◌>>=◌ byte (λ h. Iphc.labelled h (Iphc.ecn_of b) (Iphc.dscp_of b))) moves-byte
     (λ b. moves-then byte (λ h. Iphc.labelled h (Iphc.ecn_of b) (Iphc.dscp_of b)) moves-byte (λ h. moves-labelled h (Iphc.ecn_of b) (Iphc.dscp_of b))))
-    (moves-branch (eqb tf 0b01) _ _ (moves-then byte (λ b. Iphc.labelled b (Iphc.ecn_of b) ByteField.None) moves-byte (λ b. moves-labelled b (Iphc.ecn_of b) ByteField.None))
-    (moves-branch (eqb tf 0b10) _ (give _) (moves-map byte (λ b. Iphc.traffic_of (Iphc.ecn_of b) (Iphc.dscp_of b) LabelField.None) moves-byte) (moves-give _)))
+    (moves-branch (eqb tf 0b01) _ _ (moves-then byte (λ b. Iphc.labelled b (Iphc.ecn_of b) None) moves-byte (λ b. moves-labelled b (Iphc.ecn_of b) None))
+    (moves-branch (eqb tf 0b10) _ (give _) (moves-map byte (λ b. Iphc.traffic_of (Iphc.ecn_of b) (Iphc.dscp_of b) None) moves-byte) (moves-give _)))
 
 moves-hop-limit : (h : ℕ) → Moves (Iphc.hop_limit h)
 unfolding Iphc.hop_limit
@@ -190,7 +188,7 @@ moves_front b =
     moves-then (Iphc.contexts b.cid) (λ i. ◌>>=◌ (Iphc.traffic b.tf) (λ t. Iphc.front_rest b i t)) (moves-contexts b.cid)
     (λ i. moves-then (Iphc.traffic b.tf) (λ t. Iphc.front_rest b i t) (moves-traffic b.tf) (λ t. moves-front-rest b i t))
 
-moves-identifier : (mode : ℕ) (ll : AddressField) → Moves (Iphc.identifier mode ll)
+moves-identifier : (mode : ℕ) (ll : Option Address) → Moves (Iphc.identifier mode ll)
 unfolding Iphc.identifier
 moves-identifier mode ll =
     moves-branch (eqb mode 0b01) be64 _ moves-be64
@@ -200,13 +198,13 @@ moves-full : Moves Iphc.full
 unfolding Iphc.full
 moves-full = moves_both be64 be64 ip moves-be64 moves-be64
 
-moves-elided : (ctx : List ℕ) (ac mode id : ℕ) (ll : AddressField) → Moves (Iphc.elided ctx ac mode id ll)
+moves-elided : (ctx : List ℕ) (ac mode id : ℕ) (ll : Option Address) → Moves (Iphc.elided ctx ac mode id ll)
 unfolding Iphc.elided
 moves-elided ctx ac mode id ll =
     moves-then (Iphc.identifier mode ll) (λ i. Iphc.having (Iphc.prefix_of ctx ac id) (λ x. give (ip x i))) (moves-identifier mode ll)
     (λ i. moves-having (Iphc.prefix_of ctx ac id) (λ x. give (ip x i)) (λ x. moves-give (ip x i)))
 
-moves-source : (ctx : List ℕ) (sac sam id : ℕ) (ll : AddressField) → Moves (Iphc.source ctx sac sam id ll)
+moves-source : (ctx : List ℕ) (sac sam id : ℕ) (ll : Option Address) → Moves (Iphc.source ctx sac sam id ll)
 unfolding Iphc.source
 moves-source ctx sac sam id ll =
     moves-branch (eqb sam 0b00) _ _ (moves-branch (eqb sac 0) Iphc.full (give _) moves-full (moves-give _)) (moves-elided ctx sac sam id ll)
@@ -218,20 +216,20 @@ moves-multicast dam =
     (moves-branch (eqb dam 0b01) _ _ (moves_both be16 be32 (λ x y. ip ((0xff00 + x / 256) * 2 ^ 48) (x % 256 * 2 ^ 32 + y)) moves-be16 moves-be32)
     (moves-branch (eqb dam 0b10) _ _ (moves-map be32 (λ x. ip ((0xff00 + x / 2 ^ 24) * 2 ^ 48) (x % 2 ^ 24)) moves-be32) (moves-map byte (λ x. ip (0xff02 * 2 ^ 48) x) moves-byte)))
 
-moves-destination : (ctx : List ℕ) (m dac dam id : ℕ) (ll : AddressField) → Moves (Iphc.destination ctx m dac dam id ll)
+moves-destination : (ctx : List ℕ) (m dac dam id : ℕ) (ll : Option Address) → Moves (Iphc.destination ctx m dac dam id ll)
 unfolding Iphc.destination
 moves-destination ctx m dac dam id ll =
     moves-branch (eqb m 0) _ _
     (moves-branch (eqb dam 0b00) _ _ (moves-branch (eqb dac 0) Iphc.full (refuse 3) moves-full (moves-refuse 3)) (moves-elided ctx dac dam id ll))
     (moves-branch (eqb dac 0) (Iphc.multicast dam) (refuse 3) (moves-multicast dam) (moves-refuse 3))
 
-moves-addresses : (ctx : List ℕ) (b : Base) (i : Contexts) (ls ld : AddressField) → Moves (Iphc.addresses ctx b i ls ld)
+moves-addresses : (ctx : List ℕ) (b : Base) (i : Contexts) (ls ld : Option Address) → Moves (Iphc.addresses ctx b i ls ld)
 unfolding Iphc.addresses
 moves-addresses ctx b i ls ld =
     moves_both (Iphc.source ctx b.sac b.sam i.src ls) (Iphc.destination ctx b.m b.dac b.dam i.dst ld) (λ x y. record { src = x; dst = y })
     (moves-source ctx b.sac b.sam i.src ls) (moves-destination ctx b.m b.dac b.dam i.dst ld)
 
-pub moves-iphc : (ctx : List ℕ) (ls ld : AddressField) → Moves (Iphc.iphc ctx ls ld)
+pub moves-iphc : (ctx : List ℕ) (ls ld : Option Address) → Moves (Iphc.iphc ctx ls ld)
 unfolding Iphc.iphc Iphc.behind
 moves-iphc ctx ls ld =
     moves-then Iphc.base (λ v. ◌>>=◌ (Iphc.front (Iphc.base_of v)) (λ f. ◌>>=◌ (Iphc.addresses ctx (Iphc.base_of v) f.contexts ls ld) (λ a. give (Iphc.repr_of ls ld f a)))) moves-base
@@ -311,7 +309,7 @@ unfolding behind_next
 moves-behind (Uncompressed x) m v = moves-map remaining (λ d. rest x.0 d) moves-remaining
 moves-behind Compressed m v = v
 
-moves-header : (ctx : List ℕ) (ls ld : AddressField) (m : Around → Reader Chain) → ((w : Around) → Moves (m w)) → Moves (header_then ctx ls ld m)
+moves-header : (ctx : List ℕ) (ls ld : Option Address) (m : Around → Reader Chain) → ((w : Around) → Moves (m w)) → Moves (header_then ctx ls ld m)
 unfolding header_then
 moves-header ctx ls ld m v =
     moves-then (Iphc.iphc ctx ls ld) (λ h. ◌>>=◌ (behind_next h.next_header (m (within h))) (λ c. give (ipv6 h c))) (moves-iphc ctx ls ld)
@@ -328,16 +326,16 @@ unfolding chain
 moves-chain zero ctx w = moves-then (link 0) (λ l. onward ctx (λ v. refuse 3) w l) (moves-link 0) (λ l. moves-onward ctx (λ v. refuse 3) w l (λ v. moves-refuse 3))
 moves-chain (suc left) ctx w = moves-then (link (suc left)) (λ l. onward ctx (chain left ctx) w l) (moves-link (suc left)) (λ l. moves-onward ctx (chain left ctx) w l (λ v. moves-chain left ctx v))
 
-moves-chained : (ctx : List ℕ) (ls ld : AddressField) → Moves (chained ctx ls ld)
+moves-chained : (ctx : List ℕ) (ls ld : Option Address) → Moves (chained ctx ls ld)
 unfolding chained
 moves-chained ctx ls ld = moves-header ctx ls ld (chain 7 ctx) (λ w. moves-chain 7 ctx w)
 
-sized-go : (size : WordField) (n : ℕ) (r : Read Chain) → and_then (from n r) (λ x. sized size x.value) ≡ and_then r (λ x. sized size x.value)
+sized-go : (size : Option ℕ) (n : ℕ) (r : Read Chain) → and_then (from n r) (λ x. sized size x.value) ≡ and_then r (λ x. sized size x.value)
 sized-go size n (is x) = refl
 sized-go size n (refused e) = refl
 
 -- a frame that is not too long
-pub same-expansion : (ctx : List ℕ) (ls ld : AddressField) (size : WordField) (p q : List ℕ) (k : ℕ) → length (p ++ q) ≤ 127 → expansion ctx ls ld size (p ++ q) (length p + k) ≡ expansion ctx ls ld size q k
+pub same-expansion : (ctx : List ℕ) (ls ld : Option Address) (size : Option ℕ) (p q : List ℕ) (k : ℕ) → length (p ++ q) ≤ 127 → expansion ctx ls ld size (p ++ q) (length p + k) ≡ expansion ctx ls ld size q k
 unfolding expansion
 same-expansion ctx ls ld size p q k l =
     let m : length q ≤ 127 = omega (arith, length-append p q) in

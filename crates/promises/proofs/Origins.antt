@@ -1,4 +1,5 @@
 -- Each byte handed out from a slot came in a frame of the run, whose headers name the key.
+use Rattle.std.specs.Prelude.{Ok}
 use Prim.Native.Nat.{ℕ, ◌+◌, ◌*◌, ◌-◌, ◌≤◌, ◌<◌}
 use mathlib.Core.Path.{◌≡◌, refl, sym, ap, ◌∙◌}
 use mathlib.Core.Logic.{◌⊎◌, inl, inr}
@@ -70,7 +71,7 @@ pub record Sent (k : Key) (hs : List Turn) (d : List ℕ) (x : ℕ) : Type 0 whe
   pub byte : get_or d x 0 ≡ get_or part_of.bytes (x - part_of.unit * 8) 0
 
 pub each-sent : (gs : List Source) (m : List ℕ) → Gateways gs → 16384 ≤ length m → (hs : List Turn) (h : Turn) → Ran (begun gs m) (hs ++ (h ∷ [])) → (p : Part) → MeansPart h p
-    → (n : ℕ) → h.returned.answer ≡ Outcome.Out n
+    → (n : ℕ) → h.returned.answer ≡ Ok (Outcome.Out n)
     → (H : HandedOut gs m p.key hs h n) × ((x : ℕ) → x < p.key.size → (was_elided H.made.sum ≡ true → (x < H.made.sum.udp + 6) ⊎ (H.made.sum.udp + 8 ≤ x)) → Sent p.key (hs ++ (h ∷ [])) H.datagram x)
 unfolding taken_of
 each-sent gs m W room hs h R p b n a =

@@ -1,5 +1,6 @@
 -- A frame behind a relay is to the table what the same frame is bare, its mesh addresses in the MAC header's place: so what is proved of frames holds of
 -- relayed ones.
+use Rattle.std.specs.Prelude.{Option, Some, None}
 use Prim.Native.Nat.{ℕ, ◌+◌, ◌≤◌}
 use native.Mathlib.Nat.{add-zero}
 use mathlib.Core.List.{List, [], ◌∷◌, ◌++◌, append_assoc}
@@ -8,15 +9,12 @@ use mathlib.Core.Path.{◌≡◌, refl, sym, ap, ap₂, subst, ◌∙◌}
 use lib.Dec.{eqb}
 use lib.ListN.{length, get_or, length-append}
 use lib.Seq.{get_or-append-add, drop-append-add}
-use Rattle.octets.specs.Read.{Answer, is, refused, Read, got, and_then, choose}
-use Rattle.octets.specs.declared.field.WordField.{WordField}
-use Rattle.ieee802154.specs.declared.addr.AddressField.{AddressField}
+use Rattle.octets.specs.Read.{Answer, is, refused, Read, got, and_then, choose, byte, be16, le16}
 use Rattle.expand.specs.Expand.{expansion}
 use Rattle.expand.specs.Sum.{no_sum, carried_at}
 use Rattle.relay.specs.Headers.{is_either, relay, has_addresses, relay_bytes}
 use Rattle.relay.specs.declared.headers.Relay.{Relay}
 use Rattle.relay.specs.declared.mesh.Mesh.{Mesh}
-use Rattle.relay.specs.declared.mesh.MeshField.{MeshField}
 use Rattle.relay.proofs.Trips.{relay-trip}
 use Rattle.incoming.specs.Incoming.{framed, through, arrival, Brought, datagram, part, whole, piece, fragment, by_kind, payload}
 use Rattle.incoming.specs.declared.arrival.Arrival.{Arrival}
@@ -33,14 +31,11 @@ use Rattle.sixlowpan.specs.declared.frag.Repr as Frag
 use Rattle.sixlowpan.specs.declared.frag.Repr.TheVariants.{FirstFragment, Fragment}
 use Rattle.sixlowpan.specs.declared.dispatch.SixlowpanPacket.{SixlowpanPacket}
 use Rattle.sixlowpan.specs.declared.dispatch.SixlowpanPacket.TheVariants.{FragmentHeader, IphcHeader}
-use Rattle.octets.specs.Read.{byte, be16, le16}
-use Rattle.octets.specs.declared.field.ByteField.{ByteField}
 use Rattle.ieee802154.specs.Control.{supported, says_elements, has_sequence, omits_sequence, has_addressing, carried01, carried}
 use Rattle.ieee802154.specs.Addressing.{pan_field, address_field, side, sides, addressing}
 use Rattle.ieee802154.specs.Security.{auxiliary}
 use Rattle.ieee802154.specs.Mac as Mac
 use Rattle.ieee802154.specs.declared.addr.Address.TheVariants.{Short}
-use Rattle.ieee802154.specs.declared.addr.PanField.{PanField}
 use Rattle.octets.specs.Write.{byte_bytes, be16_bytes}
 use Rattle.relay.specs.Mesh.{hops_bytes}
 use Rattle.promises.proofs.TwoParts.{high}
@@ -55,16 +50,16 @@ pub record Alike (a b : Arrival) : Type 0 where
   pub receiver : a.dst ≡ b.dst
 
 module _ (p p' q : List ℕ) (l : length (p ++ q) ≤ 127) (l' : length (p' ++ q) ≤ 127) (ctx : List ℕ) (a b : Arrival) (A : Alike a b) where
-  expands : (size : WordField) (k : ℕ) → expansion ctx (AddressField.Some a.src) (AddressField.Some a.dst) size (p ++ q) (length p + k) ≡ expansion ctx (AddressField.Some b.src) (AddressField.Some b.dst) size (p' ++ q) (length p' + k)
+  expands : (size : Option ℕ) (k : ℕ) → expansion ctx (Some a.src) (Some a.dst) size (p ++ q) (length p + k) ≡ expansion ctx (Some b.src) (Some b.dst) size (p' ++ q) (length p' + k)
   expands size k =
       same-expansion ctx _ _ size p q k l
-      ∙ ap (λ z. expansion ctx (AddressField.Some z) (AddressField.Some a.dst) size q k) A.sender
-      ∙ ap (λ z. expansion ctx (AddressField.Some b.src) (AddressField.Some z) size q k) A.receiver
+      ∙ ap (λ z. expansion ctx (Some z) (Some a.dst) size q k) A.sender
+      ∙ ap (λ z. expansion ctx (Some b.src) (Some z) size q k) A.receiver
       ∙ sym (same-expansion ctx _ _ size p' q k l')
 
   same-piece : (h : Frag.Repr) (k : ℕ) → piece ctx a h (length p + k) (p ++ q) ≡ piece ctx b h (length p' + k) (p' ++ q)
   unfolding piece
-  same-piece (FirstFragment size tag) k = ap (λ r. and_then r (λ e. is (part size tag 0 e.bytes e.sum))) (expands (WordField.Some size) k)
+  same-piece (FirstFragment size tag) k = ap (λ r. and_then r (λ e. is (part size tag 0 e.bytes e.sum))) (expands (Some size) k)
   same-piece (Fragment size tag o) k = ap (λ d. choose (eqb o.0 0) (refused 10) (is (part size tag o.0 d no_sum))) (drop-append-add p q k ∙ sym (drop-append-add p' q k))
 
   fragment-go : (r : Read Frag.Repr) → and_then (from (length p) r) (λ x. piece ctx a x.value x.next (p ++ q)) ≡ and_then (from (length p') r) (λ x. piece ctx b x.value x.next (p' ++ q))
@@ -83,9 +78,9 @@ module _ (p p' q : List ℕ) (l : length (p ++ q) ≤ 127) (l' : length (p' ++ q
     unfolding whole
     same_whole =
         ap (λ r. and_then r (λ e. is (datagram e.bytes e.sum)))
-        (ap (λ n. expansion ctx (AddressField.Some a.src) (AddressField.Some a.dst) WordField.None (p ++ q) n) i
-        ∙ expands WordField.None 0
-        ∙ sym (ap (λ n. expansion ctx (AddressField.Some b.src) (AddressField.Some b.dst) WordField.None (p' ++ q) n) j))
+        (ap (λ n. expansion ctx (Some a.src) (Some a.dst) None (p ++ q) n) i
+        ∙ expands None 0
+        ∙ sym (ap (λ n. expansion ctx (Some b.src) (Some b.dst) None (p' ++ q) n) j))
 
     kind-same : (r : Answer SixlowpanPacket) → and_then r (λ c. by_kind c ctx a (p ++ q)) ≡ and_then r (λ c. by_kind c ctx b (p' ++ q))
     kind-same (is FragmentHeader) = same-fragment
@@ -126,7 +121,7 @@ same-call ctx t s u a b A e x y =
 
 -- ---- a frame behind a relay is to the table what the same frame is bare: behind a MAC header, or any front that is read as one, stand a relay's
 -- headers r and then q; or q stands behind a MAC header that has the mesh header's addresses, and the same PAN
-module _ (front bare q : List ℕ) (r : Relay) (m : Mesh) (a b : Arrival) (is-mesh : r.mesh ≡ MeshField.Some m) (both : has_addresses r.mesh ≡ true) (last : is_either (get_or q 0 0) ≡ false) where
+module _ (front bare q : List ℕ) (r : Relay) (m : Mesh) (a b : Arrival) (is-mesh : r.mesh ≡ Some m) (both : has_addresses r.mesh ≡ true) (last : is_either (get_or q 0 0) ≡ false) where
   abbrev relayed : List ℕ
   relayed = front ++ (relay_bytes r ++ q)
 
@@ -138,7 +133,7 @@ module _ (front bare q : List ℕ) (r : Relay) (m : Mesh) (a b : Arrival) (is-me
   behind-relay e i f j o h d ctx t =
       let n = length front + length (relay_bytes r) in
       let w : relay relayed a.payload.at ≡ got r n = ap (λ k. relay relayed k) i ∙ relay-trip r q both last front (length front) refl in
-      let c = through a (MeshField.Some m) n in
+      let c = through a (Some m) n in
       let x : arrival relayed ≡ is c = meshed relayed a e r n w m is-mesh in
       let g : get_or (bare ++ q) b.payload.at 0 ≡ get_or q 0 0 = ap (λ k. get_or (bare ++ q) k 0) (j ∙ sym (add-zero (length bare))) ∙ get_or-append-add bare q 0 0 in
       let y = direct (bare ++ q) b f (ap is_either g ∙ last) in
@@ -157,13 +152,13 @@ abbrev hop : Mesh
 hop = record { hops = 5; origin = Short 1; destination = Short 0xffff }
 
 abbrev by-relay : Relay
-by-relay = record { mesh = MeshField.Some hop; broadcast = ByteField.None }
+by-relay = record { mesh = Some hop; broadcast = None }
 
 abbrev pub relayed-frame : List ℕ
 relayed-frame = Worked.from 0x77 0xcd 0xab 0x01 (0xb5 ∷ 0x00 ∷ 0x01 ∷ 0xff ∷ 0xff ∷ later-bytes)
 
 abbrev arrives : ℕ → Arrival
-arrives n = record { src = Short n; pan = PanField.Some (record { 0 = 0xabcd }); dst = Short 0xffff; payload = record { at = 9 } }
+arrives n = record { src = Short n; pan = Some (record { 0 = 0xabcd }); dst = Short 0xffff; payload = record { at = 9 } }
 
 frames-read : (framed relayed-frame ≡ is (arrives 0x77)) × (framed (Worked.from 1 0xcd 0xab 0x01 later-bytes) ≡ is (arrives 1)) × (relay_bytes by-relay ≡ 0xb5 ∷ 0x00 ∷ 0x01 ∷ 0xff ∷ 0xff ∷ [])
 unfolding framed byte be16 le16 supported says_elements has_sequence omits_sequence has_addressing carried01 carried pan_field address_field side sides addressing auxiliary Mac.sequence Mac.sequence_of Mac.repr_of Mac.header_rest Mac.after_control Mac.header Mac.mac hops_bytes byte_bytes be16_bytes

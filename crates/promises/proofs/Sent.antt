@@ -1,4 +1,5 @@
 -- The frames of a cutting that we send, as the receiver's definitions read them: each brings its piece.
+use Rattle.std.specs.Prelude.{Some}
 use Prim.Native.Nat.{ℕ, ◌/◌, ◌≤◌, ◌<◌}
 use native.Mathlib.Omega.{arith}
 use mathlib.Core.List.{List, ◌++◌}
@@ -9,7 +10,6 @@ use borrow.Author.Tests.{ne_eqb}
 use Rattle.octets.specs.Read.{is}
 use Rattle.octets.proofs.Steps.{and-true}
 use Rattle.ieee802154.specs.Address.{is_present}
-use Rattle.ieee802154.specs.declared.addr.PanField.{PanField}
 use Rattle.ieee802154.specs.declared.addr.Address.{Address}
 use Rattle.ieee802154.specs.declared.addr.Address.TheVariants.{Absent, Short, Extended}
 use Rattle.ieee802154.proofs.RoundTrips.{no-elements}
@@ -29,7 +29,7 @@ use Rattle.cutting.specs.Cut.{plan_of, middle, part_of, frame_of, has_both}
 use Rattle.cutting.specs.declared.link.Link.{Link}
 use Rattle.cutting.specs.declared.piece.Piece.{Piece}
 use Rattle.cutting.specs.declared.piece.Piece.TheVariants.{Whole, First, Later}
-use Rattle.cutting.proofs.WriteLaws.{Ready}
+use Rattle.cutting.specs.Cut.{Ready}
 use Rattle.cutting.proofs.Backs.{ours-facts}
 use Rattle.cutting.proofs.Tiling.{Each, FirstPart, whole-within, first-within, later-within, pieces-each}
 use Rattle.cutting.proofs.Trips.{frame-mac, whole-dispatch, first-dispatch, later-dispatch, whole-expands, first_frag, later-frag, first-expands, later-part}
@@ -54,7 +54,7 @@ pub record Cuts (l : Link) (d : List ℕ) : Type 0 where
 
 module _ (l : Link) (d : List ℕ) (K : Cuts l d) (ctx : List ℕ) (t : ℕ) where
   abbrev arrived : Arrival
-  arrived = record { src = l.src; pan = PanField.Some l.pan; dst = l.dst; payload = record { at = mac_length l } }
+  arrived = record { src = l.src; pan = Some l.pan; dst = l.dst; payload = record { at = mac_length l } }
 
   -- its MAC header is read; behind it stands what dispatch knows, so neither header of a relay
   bare : (p : Piece) → length (frame_of l d p) ≤ l.limit → framed (frame_of l d p) ≡ is arrived

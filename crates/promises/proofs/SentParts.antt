@@ -22,7 +22,7 @@ use Rattle.cutting.specs.Cut.{plan_of}
 use Rattle.cutting.specs.declared.link.Link.{Link}
 use Rattle.cutting.specs.declared.piece.Piece.{Piece}
 use Rattle.cutting.specs.declared.piece.Piece.TheVariants.{Whole, First, Later}
-use Rattle.cutting.proofs.WriteLaws.{Ready}
+use Rattle.cutting.specs.Cut.{Ready}
 use Rattle.cutting.proofs.Tiling.{Each, Good, FirstPart, pieces-each, covers-least, start_of, end_of, Chain, pieces-chain}
 use Rattle.promises.specs.Cuttings.{zeroed, Cutting}
 use Rattle.promises.specs.Sent.{key_for, part_for, SumRight}

@@ -1,5 +1,6 @@
 -- The frames that we send, in any order, each at least once, fed as demand 3 asks to a table that lists the source address, hand out the same
 -- datagram.
+use Rattle.std.specs.Prelude.{Ok}
 use Prim.Native.Nat.{ℕ, ◌+◌, ◌-◌, ◌≤◌, ◌<◌}
 use native.Mathlib.Omega.{arith}
 use mathlib.Core.List.{List, [], ◌∷◌, ◌++◌, map}
@@ -171,9 +172,9 @@ module _ (σ : State) (l : Link) (d : List ℕ) (fs : List (List ℕ)) (b : Byte
   whole-reply = rw (le-ltb (length σ.mem) 16384 enough, le-ltb (length h.before) 2047 room, whole-call, le-ltb h.time σ.table.last time, lists) refl
 
   -- the call hands the same datagram out
-  pub whole-handed-out : Gives h.returned h.memory h.before h.output (step σ (call_in σ h)) → (h.returned.answer ≡ Outcome.Out (length d)) × (h.output ≡ d ++ drop (length d) h.before)
+  pub whole-handed-out : Gives h.returned h.memory h.before h.output (step σ (call_in σ h)) → (h.returned.answer ≡ Ok (Outcome.Out (length d))) × (h.output ≡ d ++ drop (length d) h.before)
   whole-handed-out G =
       let R = (cuts l d fs b e).ready in (
-        outcome-one h.returned.answer (Outcome.Out (length d)) (G.answer ∙ ap told whole-reply),
+        outcome-one h.returned.answer (Ok (Outcome.Out (length d))) (G.answer ∙ ap told whole-reply),
         out-front d h.before h.output _ G.output whole-reply (omega (arith, R.1)),
       )

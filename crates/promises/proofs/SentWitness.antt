@@ -1,4 +1,5 @@
 -- A datagram of 1,280 bytes, in bytes, cut at 127 and at 80: twelve and twenty frames, which go to a fresh table backwards and come out whole.
+use Rattle.std.specs.Prelude.{Some}
 use Prim.Native.Nat.{ℕ, ◌+◌, ◌-◌, ◌≤◌, ◌<◌}
 use native.Mathlib.Omega.{arith}
 use mathlib.Core.List.{List, [], ◌∷◌, map, reverse}
@@ -12,7 +13,6 @@ use Rattle.octets.specs.Write.{be16_bytes, be32_bytes}
 use Rattle.octets.proofs.Steps.{and-true}
 use Rattle.ieee802154.specs.Mac.{suppresses, length_of as macLengthOf}
 use Rattle.ieee802154.specs.declared.addr.Address.TheVariants.{Short}
-use Rattle.ieee802154.specs.declared.addr.PanField.{PanField}
 use Rattle.sixlowpan.specs.NhcUdp.{form_of}
 use Rattle.iphc.specs.Emit.{iid_form, src_form, dst_form, multicast_form, length_of}
 use Rattle.expand.specs.Sum.{words, ones_sum, pseudo, covered, udp_checksum, seen, checksum_at, holds}
@@ -47,7 +47,7 @@ abbrev pub over : ℕ → Link
 over n = record { pan = record { 0 = 0xabcd }; src = Short 1; dst = Short 2; sequence = 5; tag = 7; limit = n }
 
 abbrev pub here : Source
-here = source_of (Short 1) (PanField.Some (record { 0 = 0xabcd }))
+here = source_of (Short 1) (Some (record { 0 = 0xabcd }))
 
 abbrev pub gate : List Source
 gate = here ∷ []

@@ -1,6 +1,7 @@
 -- Demand 1, "a refusal writes no lent byte", as the change requests amend it ("no refusal but 17"), of the whole call: of `receive` and of
 -- `lift_receive`, the lent memory and the output, on every table, frame, context and lent slice, of every answer that meets the contract. 17 too
 -- leaves the output as it was, and the memory outside the part's own range in one slot. With it what a repeat and a part that is taken write.
+use Rattle.std.specs.Prelude.{Ok, Err}
 use Prim.Native.Nat.{ℕ, ◌+◌}
 use native.Mathlib.Omega.{arith}
 use mathlib.Core.Path.{◌≡◌, refl, sym, ap, subst, ◌∙◌}
@@ -62,15 +63,15 @@ module _ (tb : Table) (t : ℕ) (s ctx m o : List ℕ) where
   -- `receive` answers r, and leaves the memory m' and the output o'
   module _ (r : Received) (m' o' : List ℕ) (G : Gives r m' o o' (step (record { table = tb; mem = m }) (call_of m o ctx t s))) where
     -- "no refusal but 17 writes a lent byte", and none writes the output
-    pub receive-unwritten : (e : Refusal) → r.answer ≡ Outcome.Refused e → ((number_of e ≡ 17 → ⊥) → m' ≡ m) × (o' ≡ o)
+    pub receive-unwritten : (e : Refusal) → r.answer ≡ Err e → ((number_of e ≡ 17 → ⊥) → m' ≡ m) × (o' ≡ o)
     receive-unwritten e a =
         of-refusal σ call m' o o' G.memory G.output (number_of e) (told-refused (number_of e) (step σ call).reply (sym (ap of_outcome a) ∙ G.answer))
 
     -- a repeat is kept, and writes nothing
-    pub receive-repeat : (u : ℕ) (p : Part) → call ≡ part u p → Repeated (record { table = tb; mem = m }) u p → (r.answer ≡ Outcome.Kept) × (m' ≡ m) × (o' ≡ o)
+    pub receive-repeat : (u : ℕ) (p : Part) → call ≡ part u p → Repeated (record { table = tb; mem = m }) u p → (r.answer ≡ Ok Outcome.Kept) × (m' ≡ m) × (o' ≡ o)
     receive-repeat u p b R =
         let w = of-repeat σ call m' o o' G.memory G.output u p b R in
-        (outcome-one r.answer Outcome.Kept (G.answer ∙ ap told w.0), w.1, w.2)
+        (outcome-one r.answer (Ok Outcome.Kept) (G.answer ∙ ap told w.0), w.1, w.2)
 
     -- a part changes no byte of the memory outside its own range in one slot
     pub receive_inside : (u : ℕ) (p : Part) → call ≡ part u p → (i : ℕ) × ((x : ℕ) → (Inside p i x → ⊥) → get_or m' x 0 ≡ get_or m x 0)

@@ -1,5 +1,6 @@
 -- What demand 3 supposes can be met: runs of `receive`, in bytes (Worked.antt), over any lent memory and any outputs that are long enough, to a
 -- table of the gateway 0001 in PAN abcd and another: 0002 beside it, or 0001 in another building's PAN.
+use Rattle.std.specs.Prelude.{Some, Ok, Err}
 use Prim.Native.Nat.{ℕ, ◌+◌, ◌≤◌}
 use native.Mathlib.Omega.{arith}
 use mathlib.Core.Path.{◌≡◌, refl, sym, ap, ◌∙◌}
@@ -16,7 +17,7 @@ use Rattle.marks.specs.Marks.{has_in, fill, bits, unpack, val, packs, pack}
 use Rattle.expand.specs.Sum.{words, ones_sum, pseudo, covered, udp_checksum, seen, checksum_at, summed_at, summed_by, holds, elided_at, carried_at}
 use Rattle.reassembly.specs.Lists.{count, first_at, those}
 use Rattle.reassembly.specs.Slots.{no_node, no_source, same_node, same_source, addressed, present, same_key, free_slot, opened, is_free, is_key, is_of, expired, expire1, expire, gates_of, is_gate, held, free, idle_others, may_open}
-use Rattle.reassembly.specs.Parts.{Part, Reply, kept, out, refused, told, of_outcome, output_after, units, fits_in, fits, finish, spans, repeats_in, taken_in, full, place, offer}
+use Rattle.reassembly.specs.Parts.{Part, Reply, kept, out, refused, told, Answered, of_outcome, output_after, units, fits_in, fits, finish, spans, repeats_in, taken_in, full, place, offer}
 use Rattle.reassembly.specs.Table.{part, State, with_slots, slots_at, land, where_key, where_free, offer_at, open_at, take_part, step, room_call, Gives, comes, next, run}
 use Rattle.reassembly.specs.Fresh.{seats, fresh, sources, unfit, refused_list, Gateways, begun}
 use Rattle.reassembly.specs.declared.slot.Source.{Source}
@@ -32,7 +33,6 @@ use Rattle.promises.specs.Cuttings.{zeroed, Cutting}
 use Rattle.promises.specs.Runs.{came, AllKept}
 use Rattle.promises.specs.Frames.{Turn, call_in, Ran, end_of, Forward, meant, MeansPart, parts_of, Supposed, Concluded}
 use Rattle.promises.proofs.TwoParts.{low, high, halves, low-in, high-in, halves-cover, low-missing, high-missing}
-use Rattle.ieee802154.specs.declared.addr.PanField.{PanField}
 use Rattle.reassembly.specs.declared.table.Gateway.{Gateway}
 use Rattle.receiver.proofs.Names.{frame-part}
 use Rattle.promises.proofs.Frames.{good-next, call-is, ran-left, as-calls, demand-3}
@@ -40,7 +40,7 @@ use Rattle.promises.proofs.Relayed.{relayed-frame, relayed-brings}
 use Rattle.promises.proofs.Worked.{Other, neighbour, building, gateways, old-key, new-key, last-month, this-month, resent, old-first, old-later, new-first, new-later, elided-frame, resent-later, first-brings, later-brings}
 
 abbrev listed_as : ℕ → ℕ → Gateway
-listed_as a p = record { addr = Short a; pan = PanField.Some (record { 0 = p }) }
+listed_as a p = record { addr = Short a; pan = Some (record { 0 = p }) }
 
 -- the gateways are a list that `Table::new` takes
 listed : (w : Other) → Gateways (gateways w)
@@ -57,10 +57,10 @@ both-listed building = (refl, refl)
 -- ---- calls as the specification answers them
 
 -- what it answers that refuses nothing
-abbrev answer_of : Reply (List ℕ) → Outcome
-answer_of kept = Outcome.Kept
-answer_of (out d) = Outcome.Out (length d)
-answer_of (refused n) = Outcome.Refused Refusal.Clash
+abbrev answer_of : Reply (List ℕ) → Answered
+answer_of kept = Ok Outcome.Kept
+answer_of (out d) = Ok (Outcome.Out (length d))
+answer_of (refused n) = Err Refusal.Clash
 
 abbrev answered : Reply (List ℕ) → Bool
 answered kept = true

@@ -1,6 +1,6 @@
 -- Demand 3 and its companions, each in one piece: everything that is supposed, then what is concluded, with the customer's words in quotes. For
 -- frames, runs of `receive`, and for the library, runs of `lift_receive`. The theorems of these types: proofs/Frames.antt, proofs/Library.antt.
-use Rattle.std.specs.Prelude.{ℕ, ◌+◌, ◌≤◌, ◌<◌, ◌≡◌, List, [], ◌∷◌, ◌++◌, map, length}
+use Rattle.std.specs.Prelude.{ℕ, ◌+◌, ◌≤◌, ◌<◌, ◌≡◌, List, [], ◌∷◌, ◌++◌, map, length, Ok}
 use Rattle.reassembly.specs.Slots.{owner, held, free}
 use Rattle.reassembly.specs.Parts.{Part}
 use Rattle.reassembly.specs.Fresh.{Gateways, begun}
@@ -46,7 +46,7 @@ EightSlots =
 abbrev pub NeverMeet : Type 0
 NeverMeet =
     (gs : List Source) (m : List ℕ) → Gateways gs → 16384 ≤ length m → (hs : List Turn) (h : Turn) → Ran (begun gs m) (hs ++ (h ∷ []))
-    → (p : Part) → MeansPart h p → (n : ℕ) → h.returned.answer ≡ Outcome.Out n → HandedOut gs m p.key hs h n
+    → (p : Part) → MeansPart h p → (n : ℕ) → h.returned.answer ≡ Ok (Outcome.Out n) → HandedOut gs m p.key hs h n
 
 -- ---- for the library: answers are numbers (lift/specs/Face.antt), and the caller keeps the table
 

@@ -1,6 +1,6 @@
 -- Demand 3 over frames: runs of the public call `receive` (crate receiver), what demand 3 supposes of a run and what it concludes, clause by
 -- clause, with the customer's words in quotes.
-use Rattle.std.specs.Prelude.{ℕ, ◌+◌, ◌≤◌, ◌<◌, ◌≡◌, true, List, [], ◌∷◌, ◌++◌, map, length, drop}
+use Rattle.std.specs.Prelude.{ℕ, ◌+◌, ◌≤◌, ◌<◌, ◌≡◌, true, List, [], ◌∷◌, ◌++◌, map, length, drop, Ok}
 use Rattle.octets.specs.Read.{is}
 use Rattle.reassembly.specs.Slots.{owner, is_gate}
 use Rattle.reassembly.specs.Parts.{Part}
@@ -111,9 +111,9 @@ pub record Supposed (gs : List Source) (m : List ℕ) (k : Key) (d : List ℕ) (
 -- the others send."
 pub record Concluded (k : Key) (d : List ℕ) (mid : List Turn) (c : Turn) : Type 0 where
   -- none before it: each answers that the part is kept, and leaves the output;
-  pub none_before : (h : Turn) → In h mid → named h.frame ≡ is k → (h.returned.answer ≡ Outcome.Kept) × (h.output ≡ h.before)
+  pub none_before : (h : Turn) → In h mid → named h.frame ≡ is k → (h.returned.answer ≡ Ok Outcome.Kept) × (h.output ≡ h.before)
   -- the covering call says the datagram's length, and its output starts with the datagram, the rest as it was.
-  pub answer : c.returned.answer ≡ Outcome.Out (length d)
+  pub answer : c.returned.answer ≡ Ok (Outcome.Out (length d))
   pub output : c.output ≡ d ++ drop (length d) c.before
 
 -- A datagram of n bytes that the call h handed out from a slot under k, after the calls hs: it stands at the output's start, and it is made of

@@ -1,6 +1,6 @@
 -- Demand 3 for the library: runs of `lift_receive` (crate lift), on a table that the caller keeps. What comes, and when, is as over frames
 -- (specs/Frames.antt): a call as a `Turn` has it, beside the answer, which is a number here (lift/specs/Face.antt).
-use Rattle.std.specs.Prelude.{ℕ, ◌+◌, ◌≡◌, List, [], ◌∷◌, ◌++◌, length, drop}
+use Rattle.std.specs.Prelude.{ℕ, ◌+◌, ◌≡◌, List, [], ◌∷◌, ◌++◌, length, drop, Ok}
 use Rattle.octets.specs.Read.{is}
 use Rattle.reassembly.specs.Table.{State}
 use Rattle.reassembly.specs.Cover.{In}
@@ -29,7 +29,7 @@ as_turn h = record {
   frame = h.frame;
   contexts = h.contexts;
   before = h.before;
-  returned = record { answer = Outcome.Kept; table = h.table };
+  returned = record { answer = Ok Outcome.Kept; table = h.table };
   memory = h.memory;
   output = h.output;
 }

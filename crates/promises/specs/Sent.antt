@@ -1,5 +1,5 @@
 -- What the frames of a cutting that we send (crate cutting) are to a receiver.
-use Rattle.std.specs.Prelude.{ℕ, ◌+◌, ◌/◌, ◌≤◌, ◌<◌, ◌≡◌, true, List, [], ◌∷◌, ◌++◌, length, take, drop, replicate}
+use Rattle.std.specs.Prelude.{ℕ, ◌+◌, ◌/◌, ◌≤◌, ◌<◌, ◌≡◌, true, List, [], ◌∷◌, ◌++◌, length, take, drop, replicate, Some}
 use Rattle.octets.specs.Read.{is}
 use Rattle.reassembly.specs.Slots.{node_of, source_of, is_gate}
 use Rattle.reassembly.specs.Cover.{In}
@@ -9,7 +9,6 @@ use Rattle.reassembly.specs.Table as Table
 use Rattle.reassembly.specs.Table.{Call, from, State, Result}
 use Rattle.reassembly.specs.declared.slot.Key.{Key}
 use Rattle.reassembly.specs.declared.slot.Source.{Source}
-use Rattle.ieee802154.specs.declared.addr.PanField.{PanField}
 use Rattle.expand.specs.Sum.{no_sum, holds}
 use Rattle.receiver.specs.Receive.{tested}
 use Rattle.receiver.specs.Names.{named}
@@ -23,7 +22,7 @@ use Rattle.cutting.specs.declared.piece.Piece.TheVariants.{Whole, First, Later}
 
 -- who sends: the source under the PAN that the frames carry
 abbrev pub sender : Link → Source
-sender l = source_of l.src (PanField.Some l.pan)
+sender l = source_of l.src (Some l.pan)
 
 abbrev pub key_for : Link → List ℕ → Key
 key_for l d = record { src = sender l; dst = node_of l.dst; size = length d; tag = l.tag }

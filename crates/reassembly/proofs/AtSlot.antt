@@ -13,13 +13,13 @@ use Rattle.octets.specs.Read.{choose}
 use Rattle.octets.specs.Write.{put}
 use Rattle.octets.specs.Refusal.{number_of}
 use Rattle.octets.specs.declared.refusal.Refusal.{Refusal}
+use Rattle.std.specs.Prelude.{Err}
 use Rattle.reassembly.specs.Slots.{is_key, opened}
 use Rattle.marks.proofs.Ranges.{none-marked}
 use Rattle.reassembly.specs.Parts.{Part, fits, spans, repeats_in, repeats, place, offer}
 use Rattle.reassembly.specs.Table.{chunk, splice, stays, take_at, Lands}
 use Rattle.reassembly.specs.declared.slot.Key.{Key}
 use Rattle.reassembly.specs.declared.slot.Slot.{Slot}
-use Rattle.reassembly.specs.declared.part.Outcome.{Outcome}
 use Rattle.reassembly.specs.declared.part.InSlot.{InSlot}
 use Rattle.reassembly.proofs.Tests.{by-test, by_order}
 use Rattle.reassembly.proofs.Gateways.{is_key-key}
@@ -45,16 +45,16 @@ offer-opened k t b p = rw (not-repeated, opened-clear k t p)
     not-repeated = unfold repeats_in spans opened in (rw (none-marked p.unit) refl)
 
 module _ (s : Slot) (i t : ℕ) (p : Part) (m o : List ℕ) where
-  left : (e : Refusal) (r : InSlot) → r ≡ record { outcome = Outcome.Refused e; slot = s } → take_at s i t p m o ≡ stays s i m (number_of e) → Lands r i m m o o (take_at s i t p m o)
+  left : (e : Refusal) (r : InSlot) → r ≡ record { outcome = Err e; slot = s } → take_at s i t p m o ≡ stays s i m (number_of e) → Lands r i m m o o (take_at s i t p m o)
   unfolding stays splice chunk
   left e r q h = rw (h, q) record { answer = refl; slot = refl; memory = sym (put_back 2048 (i * 2048) m); output = refl }
 
-  pub at_7 : (ltb (length m) 16384 || ltb (length o) 2047) ≡ true → (r : InSlot) → r ≡ record { outcome = Outcome.Refused Refusal.NoRoom; slot = s } → Lands r i m m o o (take_at s i t p m o)
+  pub at_7 : (ltb (length m) 16384 || ltb (length o) 2047) ≡ true → (r : InSlot) → r ≡ record { outcome = Err Refusal.NoRoom; slot = s } → Lands r i m m o o (take_at s i t p m o)
   unfolding take_at
   at_7 short r q = left Refusal.NoRoom r q (rw short)
 
   module _ (enough : (ltb (length m) 16384 || ltb (length o) 2047) ≡ false) where
-    pub at-10 : fits p ≡ false → (r : InSlot) → r ≡ record { outcome = Outcome.Refused Refusal.BadPart; slot = s } → Lands r i m m o o (take_at s i t p m o)
+    pub at-10 : fits p ≡ false → (r : InSlot) → r ≡ record { outcome = Err Refusal.BadPart; slot = s } → Lands r i m m o o (take_at s i t p m o)
     unfolding take_at
     at-10 bad r q = left Refusal.BadPart r q (rw (enough, bad))
 
@@ -67,7 +67,7 @@ module _ (s : Slot) (i t : ℕ) (p : Part) (m o : List ℕ) where
       unfolding take_at
       take_none h = rw (enough, good, le-ltb i 8 h)
 
-      pub at-12 : 8 ≤ i → (r : InSlot) → r ≡ record { outcome = Outcome.Refused Refusal.NoSlot; slot = s } → Lands r i m m o o (take_at s i t p m o)
+      pub at-12 : 8 ≤ i → (r : InSlot) → r ≡ record { outcome = Err Refusal.NoSlot; slot = s } → Lands r i m m o o (take_at s i t p m o)
       unfolding take_at
       at-12 h r q = left Refusal.NoSlot r q (rw (enough, good, le-ltb i 8 h))
 

@@ -1,4 +1,5 @@
 -- The gateway list: seats filled one after the other, and what 14 lets pass.
+use Rattle.std.specs.Prelude.{Result, Ok, Err}
 use Prim.Native.Nat.{ℕ, zero, suc, ◌+◌, ◌-◌, ◌≤◌, ◌<◌}
 use native.Mathlib.Nat.{not-suc-le-zero, le_of_suc-le-suc}
 use native.Mathlib.Numerals.{add-one}
@@ -10,16 +11,16 @@ use lib.ListN.{length, get_or, set, take, replicate, length-map}
 use lib.Seq.{take_at, length-take-le}
 use lib.Dec.{ltb, leb}
 use borrow.Author.Tests.{lt-ltb, le-ltb, ltb-false, leb-false}
-use Rattle.octets.specs.Read.{Answer, refused}
+use Rattle.octets.specs.Read.{Answer, is, refused}
+use Rattle.octets.specs.Answers.{of_answer}
 use Rattle.octets.specs.Refusal.{number_of}
 use Rattle.octets.specs.declared.refusal.Refusal.{Refusal}
 use Rattle.octets.proofs.Spans.{not-refused}
 use Rattle.reassembly.specs.Lists.{bit, count, first_at, those}
 use Rattle.reassembly.specs.Slots.{no_source, same_source, present, free_slot}
-use Rattle.reassembly.specs.Fresh.{of_listed, gate_of, seats, fresh, sources, unfit, refused_list, listed, made, Sits, Begins, Gateways}
+use Rattle.reassembly.specs.Fresh.{gate_of, seats, fresh, sources, unfit, refused_list, listed, seated, made, Begins, Gateways}
 use Rattle.reassembly.specs.declared.slot.Source.{Source}
 use Rattle.reassembly.specs.declared.table.Table.{Table}
-use Rattle.reassembly.specs.declared.table.Listed.{Listed}
 use Rattle.reassembly.specs.declared.table.Gateway.{Gateway}
 use Rattle.reassembly.proofs.Tests.{by-test, by_order, not-true-false, no_both}
 use Rattle.reassembly.proofs.Lists.{count_at, first_at-found, first_at-holds}
@@ -56,22 +57,18 @@ take-seats n l h = take_at (sources n l) (replicate (4 - length (sources n l)) n
 -- ---- what `seat` answers
 
 module _ (n : ℕ) (l : List Gateway) where
-  sits-refused : refused_list n (sources n l) ≡ true → (y : Listed) (g : List Source) → y ≡ Listed.Refused Refusal.BadGateways → g ≡ replicate 4 no_source → Sits y g n l
-  unfolding listed seats
-  sits-refused h y g e f = record { answer = ap of_listed e ∙ rw h; seated = f ∙ rw h }
-
-  pub sits-long : 4 < n → (y : Listed) (g : List Source) → y ≡ Listed.Refused Refusal.BadGateways → g ≡ replicate 4 no_source → Sits y g n l
-  unfolding refused_list
-  sits-long h = sits-refused (rw (lt-ltb 4 n h))
+  pub seated_long : 4 < n → seated n (sources n l) ≡ refused 14
+  unfolding seated refused_list
+  seated_long h = rw (lt-ltb 4 n h)
 
   module _ (short : n ≤ 4) where
-    pub sits-unfit : leb 1 (count (unfit (sources n l)) (sources n l)) ≡ true → (y : Listed) (g : List Source) → y ≡ Listed.Refused Refusal.BadGateways → g ≡ replicate 4 no_source → Sits y g n l
-    unfolding refused_list
-    sits-unfit h = sits-refused (rw (le-ltb 4 n short, h))
+    pub seated_unfit : leb 1 (count (unfit (sources n l)) (sources n l)) ≡ true → seated n (sources n l) ≡ refused 14
+    unfolding seated refused_list
+    seated_unfit h = rw (le-ltb 4 n short, h)
 
-    pub sits : leb 1 (count (unfit (sources n l)) (sources n l)) ≡ false → (g : List Source) → g ≡ seats (sources n l) → Sits Listed.Accepted g n l
-    unfolding refused_list listed
-    sits h g e = record { answer = rw (le-ltb 4 n short, h); seated = e ∙ rw (le-ltb 4 n short, h) }
+    pub seated_fit : leb 1 (count (unfit (sources n l)) (sources n l)) ≡ false → seated n (sources n l) ≡ is (seats (sources n l))
+    unfolding seated refused_list
+    seated_fit h = rw (le-ltb 4 n short, h)
 
 -- ---- a list that is not refused
 
@@ -133,45 +130,52 @@ unfolding refused_list
 not-long n gs e = ltb-false 4 n (or_no (ltb 4 n) (leb 1 (count (unfit gs) gs)) e).0
 
 -- an answer y to the list says whether it is refused
-module _ (n : ℕ) (l : List Gateway) (y : Listed) (A : of_listed y ≡ listed n (sources n l)) where
-  pub when-accepted : y ≡ Listed.Accepted → refused_list n (sources n l) ≡ false
+module _ (n : ℕ) (l : List Gateway) (y : Result (Unit {0}) Refusal) (A : of_answer y ≡ listed n (sources n l)) where
+  pub when-accepted : y ≡ (Ok tt) → refused_list n (sources n l) ≡ false
   unfolding listed
-  when-accepted a = by-test (refused_list n (sources n l)) (λ e. not-refused tt 14 (sym (A ∙ rw e) ∙ ap of_listed a)) (λ e. e)
+  when-accepted a = by-test (refused_list n (sources n l)) (λ e. not-refused tt 14 (sym (A ∙ rw e) ∙ ap of_answer a)) (λ e. e)
 
-  pub when-refused : (r : Refusal) → y ≡ Listed.Refused r → (refused_list n (sources n l) ≡ true) × (number_of r ≡ 14)
+  pub when-refused : (r : Refusal) → y ≡ Err r → (refused_list n (sources n l) ≡ true) × (number_of r ≡ 14)
   unfolding listed
   when-refused r a = by-test (refused_list n (sources n l))
-      (λ e. (e, number_is (sym (ap of_listed a) ∙ A ∙ rw e)))
-      (λ e. not-refused tt (number_of r) (sym (ap of_listed a) ∙ A ∙ rw e))
+      (λ e. (e, number_is (sym (ap of_answer a) ∙ A ∙ rw e)))
+      (λ e. not-refused tt (number_of r) (sym (ap of_answer a) ∙ A ∙ rw e))
     where
       number_is : {m k : ℕ} → ◌≡◌ {A = Answer (Unit {0})} (refused m) (refused k) → m ≡ k
       number_is q = cc q
 
--- a table begun with these seats, and one that a refused list leaves
-module _ (n : ℕ) (l : List Gateway) (y : Listed) (g : List Source) (S : Sits y g n l) (t : Table) where
-  pub begins-accepted : y ≡ Listed.Accepted → (x : Table) → x ≡ record { slots = replicate 8 free_slot; last = 0; gateways = g } → Begins Listed.Accepted t x n l
-  unfolding made fresh
-  begins-accepted a x e =
-      let h = when-accepted n l y S.answer a in
-      let q : g ≡ seats (sources n l) = S.seated ∙ rw h in
-      record { answer = ap of_listed (sym a) ∙ S.answer; table = e ∙ rw (h, q) }
+-- a table begun with the seats that `seat` answers, and one that a refused list leaves
+module _ (n : ℕ) (l : List Gateway) (t : Table) where
+  pub begins-accepted : (g : List Source) → is g ≡ seated n (sources n l) → (x : Table) → x ≡ record { slots = replicate 8 free_slot; last = 0; gateways = g } → Begins (Ok tt) t x n l
+  unfolding seated listed made fresh
+  begins-accepted g a x e = by-test (refused_list n (sources n l))
+      (λ h. not-refused g 14 (sym (a ∙ rw h)))
+      (λ h.
+      let q : g ≡ seats (sources n l) = is-one (a ∙ rw h) in
+      record { answer = rw h; table = e ∙ rw (h, q) })
+    where
+      is-one : {x y : List Source} → ◌≡◌ {A = Answer (List Source)} (is x) (is y) → x ≡ y
+      is-one q = cc q
 
-  pub begins-refused : (r : Refusal) → y ≡ Listed.Refused r → Begins (Listed.Refused r) t t n l
-  unfolding made
-  begins-refused r a =
-      let h = (when-refused n l y S.answer r a).0 in
-      record { answer = ap of_listed (sym a) ∙ S.answer; table = rw h }
+  pub begins-refused : (r : Refusal) → refused (number_of r) ≡ seated n (sources n l) → Begins (Err r) t t n l
+  unfolding seated listed made
+  begins-refused r a = by-test (refused_list n (sources n l))
+      (λ h. record { answer = number_is {m = number_of r} {k = 14} (a ∙ rw h) ∙ rw h; table = rw h })
+      (λ h. not-refused (seats (sources n l)) (number_of r) (a ∙ rw h))
+    where
+      number_is : {m k : ℕ} → ◌≡◌ {A = Answer (List Source)} (refused m) (refused k) → ◌≡◌ {A = Answer (Unit {0})} (refused m) (refused k)
+      number_is q = cc q
 
-module _ (n : ℕ) (l : List Gateway) (y : Listed) (t x : Table) (B : Begins y t x n l) where
+module _ (n : ℕ) (l : List Gateway) (y : Result (Unit {0}) Refusal) (t x : Table) (B : Begins y t x n l) where
   pub when-fit : refused_list n (sources n l) ≡ false → x ≡ fresh (sources n l)
   unfolding made
   when-fit e = rw e at B.table
 
 -- the table that a list makes that is accepted is a fresh one, and the list is one that 14 lets pass
-pub new-fresh : (n : ℕ) (l : List Gateway) (t x : Table) → length l ≡ 4 → Begins Listed.Accepted t x n l → (x ≡ fresh (sources n l)) × Gateways (sources n l)
+pub new-fresh : (n : ℕ) (l : List Gateway) (t x : Table) → length l ≡ 4 → Begins (Ok tt) t x n l → (x ≡ fresh (sources n l)) × Gateways (sources n l)
 new-fresh n l t x four B =
-    let e = when-accepted n l Listed.Accepted B.answer refl in
-    (when-fit n l Listed.Accepted t x B e, accepted n l (omega (arith, not-long n (sources n l) e)) e)
+    let e = when-accepted n l (Ok tt) B.answer refl in
+    (when-fit n l (Ok tt) t x B e, accepted n l (omega (arith, not-long n (sources n l) e)) e)
 
 -- its last time
 pub fresh-last : (gs : List Source) → (fresh gs).last ≡ 0

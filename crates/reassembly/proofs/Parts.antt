@@ -18,8 +18,9 @@ use Rattle.expand.specs.declared.checksum.UdpSum.{UdpSum}
 use Rattle.expand.proofs.CopyLaws.{length-put}
 use Rattle.expand.proofs.SumLaws.{summed-put, stands-facts, length-summed, summed-front}
 use Rattle.octets.specs.declared.refusal.Refusal.{Refusal}
+use Rattle.std.specs.Prelude.{Ok, Err}
 use Rattle.reassembly.specs.Slots.{free_slot}
-use Rattle.reassembly.specs.Parts.{Part, Reply, kept, out, refused, told, output_after, repeats, touches, taken_in, taken, written, units, full, finish, handed, Hands, place, offer, Does}
+use Rattle.reassembly.specs.Parts.{Part, Reply, kept, out, refused, told, Answered, output_after, repeats, touches, taken_in, taken, written, units, full, finish, handed, Hands, place, offer, Does}
 use Rattle.reassembly.proofs.Tests.{by-test}
 use Rattle.reassembly.proofs.Lists.{get_or-sets-before, get_or-sets-after, put-sets}
 use Rattle.reassembly.specs.declared.slot.Key.{Key}
@@ -73,7 +74,7 @@ handed_out m d x e = by-test (holds m d)
     (λ h. absurd (true≢false (sym (ap is_out (sym (handed-bad m d h) ∙ e)))))
 
 -- as the code hands it out: the slot's bytes b, of which the first n are the datagram
-pub hands-good : (m : UdpSum) (n : ℕ) (b o o₁ o₂ : List ℕ) (t : Bool) → t ≡ holds_in m n b → t ≡ true → n ≤ length b → n ≤ length o → o₁ ≡ put 0 (take n (drop 0 b)) o → o₂ ≡ summed_in m n o₁ → Hands (Outcome.Out n) o o₂ (handed m (take n b))
+pub hands-good : (m : UdpSum) (n : ℕ) (b o o₁ o₂ : List ℕ) (t : Bool) → t ≡ holds_in m n b → t ≡ true → n ≤ length b → n ≤ length o → o₁ ≡ put 0 (take n (drop 0 b)) o → o₂ ≡ summed_in m n o₁ → Hands (Ok (Outcome.Out n)) o o₂ (handed m (take n b))
 unfolding holds_in
 hands-good m n b o o₁ o₂ t p q h k e f =
     let d = take n b in
@@ -84,7 +85,7 @@ hands-good m n b o o₁ o₂ t p q h k e f =
       output = f ∙ ap (summed_in m n) e ∙ hand-summed m n d o l k;
     }
 
-pub hands-bad : (m : UdpSum) (n : ℕ) (b o : List ℕ) (t : Bool) → t ≡ holds_in m n b → t ≡ false → n ≤ length b → Hands (Outcome.Refused Refusal.BadChecksum) o o (handed m (take n b))
+pub hands-bad : (m : UdpSum) (n : ℕ) (b o : List ℕ) (t : Bool) → t ≡ holds_in m n b → t ≡ false → n ≤ length b → Hands (Err Refusal.BadChecksum) o o (handed m (take n b))
 unfolding holds_in
 hands-bad m n b o t p q h =
     let r : holds m (take n b) ≡ false = rw (le-leb n (length b) h) at (sym p ∙ q) in
@@ -120,7 +121,7 @@ module _ (s : Slot) (b : List ℕ) (p : Part) where
   unfolding offer
   offer-clear e t = rw (e, t)
 
-  pub does-full : (y : Outcome) (t f : Slot) (b' o o' : List ℕ) → b' ≡ written b p → t ≡ taken s p → full t ≡ true → f ≡ free_slot
+  pub does-full : (y : Answered) (t f : Slot) (b' o o' : List ℕ) → b' ≡ written b p → t ≡ taken s p → full t ≡ true → f ≡ free_slot
       → Hands y o o' (handed t.sum (take t.key.size b'))
       → Does (record { outcome = y; slot = f }) b' o o' (place s b p)
   does-full y t f b' o o' eb et ef q H =
@@ -133,14 +134,14 @@ module _ (s : Slot) (b : List ℕ) (p : Part) where
       }
 
   pub does-kept : (t : Slot) (b' o : List ℕ) → b' ≡ written b p → t ≡ taken s p → full t ≡ false
-      → Does (record { outcome = Outcome.Kept; slot = t }) b' o o (place s b p)
+      → Does (record { outcome = Ok Outcome.Kept; slot = t }) b' o o (place s b p)
   does-kept t b' o eb et ef = rw (place_kept (rw (← et) ef)) record { answer = refl; slot = et; bytes = eb; output = refl }
 
-  pub does-repeat : (o : List ℕ) → repeats s b p ≡ true → Does (record { outcome = Outcome.Kept; slot = s }) b o o (offer s b p)
+  pub does-repeat : (o : List ℕ) → repeats s b p ≡ true → Does (record { outcome = Ok Outcome.Kept; slot = s }) b o o (offer s b p)
   does-repeat o e = rw (offer-repeat e) record { answer = refl; slot = refl; bytes = refl; output = refl }
 
   pub does-clash : (f : Slot) (o : List ℕ) → repeats s b p ≡ false → touches s p ≡ true → f ≡ free_slot
-      → Does (record { outcome = Outcome.Refused Refusal.Clash; slot = f }) b o o (offer s b p)
+      → Does (record { outcome = Err Refusal.Clash; slot = f }) b o o (offer s b p)
   does-clash f o e t q = rw (offer-clash e t) record { answer = refl; slot = q; bytes = refl; output = refl }
 
   pub does-place : (r : InSlot) (b' o o' : List ℕ) → repeats s b p ≡ false → touches s p ≡ false → Does r b' o o' (place s b p) → Does r b' o o' (offer s b p)

@@ -1,5 +1,8 @@
 -- What the slot table promises of every run of calls, from a fresh table with a gateway list that 14 lets pass; and that the contracts
 -- leave no second answer.
+use Rattle.std.specs.Prelude as Std
+use Rattle.std.specs.Prelude.{Ok, Err}
+use Rattle.octets.specs.declared.refusal.Refusal.{Refusal}
 use Prim.Native.Nat.{ℕ, ◌+◌, ◌*◌, ◌-◌, ◌≤◌, ◌<◌}
 use native.Mathlib.Omega.{arith}
 use mathlib.Core.Path.{◌≡◌, refl, sym, ap, ap₂, ◌∙◌}
@@ -8,21 +11,21 @@ use mathlib.Core.Bool.{true, false}
 use mathlib.Core.List.{List, [], ◌∷◌, ◌++◌}
 use lib.ListN.{length, get_or}
 use Rattle.octets.specs.Refusal.{number_of}
-use Rattle.octets.proofs.Unique.{number-one}
+use Rattle.octets.specs.Answers.{of_answer}
+use Rattle.octets.proofs.Unique.{number-one, answer-one}
 use Rattle.reassembly.specs.declared.table.Gateway.{Gateway}
 use Rattle.reassembly.specs.Lists.{count}
 use Rattle.reassembly.specs.Slots.{opened, is_free, expired, gates_of, is_gate, held, free, may_open, opening}
-use Rattle.reassembly.specs.Parts.{Part, out, of_outcome, Put}
+use Rattle.reassembly.specs.Parts.{Part, out, Answered, of_outcome, Put}
 use Rattle.reassembly.specs.Table.{Call, part, Result, slots_at, step, run, opens_in, ends_in, taken_since, Lands, Received, Gives}
 use Rattle.reassembly.specs.Cover.{In, Has, MadeOf}
-use Rattle.reassembly.specs.Fresh.{Sits, Begins, of_listed, Gateways, begun}
+use Rattle.reassembly.specs.Fresh.{sources, seated, Begins, Gateways, begun}
 use Rattle.reassembly.specs.declared.slot.Source.{Source}
 use Rattle.reassembly.specs.declared.slot.Key.{Key}
 use Rattle.reassembly.specs.declared.slot.Slot.{Slot}
 use Rattle.reassembly.specs.declared.part.Outcome.{Outcome}
 use Rattle.reassembly.specs.declared.part.InSlot.{InSlot}
 use Rattle.reassembly.specs.declared.table.Table.{Table}
-use Rattle.reassembly.specs.declared.table.Listed.{Listed}
 use Rattle.reassembly.proofs.Lists.{first_at-found}
 use Rattle.reassembly.proofs.Gateways.{idle, free-for-idle, may_open-none, may_open-rule}
 use Rattle.expand.specs.Sum.{was_elided}
@@ -86,39 +89,37 @@ k12-gone k = refl
 
 -- ---- any two answers are equal
 
-pub outcome-one : (y z : Outcome) → of_outcome y ≡ of_outcome z → y ≡ z
-outcome-one Outcome.Kept Outcome.Kept e = refl
-outcome-one Outcome.Kept (Outcome.Out n) e = cc
-outcome-one Outcome.Kept (Outcome.Refused r) e = cc
-outcome-one (Outcome.Out n) Outcome.Kept e = cc
-outcome-one (Outcome.Out n) (Outcome.Out k) e = let q : n ≡ k = cc in ap Outcome.Out q
-outcome-one (Outcome.Out n) (Outcome.Refused r) e = cc
-outcome-one (Outcome.Refused r) Outcome.Kept e = cc
-outcome-one (Outcome.Refused r) (Outcome.Out n) e = cc
-outcome-one (Outcome.Refused r) (Outcome.Refused s) e = let q : number_of r ≡ number_of s = cc in ap Outcome.Refused (number-one r s q)
+pub outcome-one : (y z : Answered) → of_outcome y ≡ of_outcome z → y ≡ z
+outcome-one (Ok Outcome.Kept) (Ok Outcome.Kept) e = refl
+outcome-one (Ok Outcome.Kept) (Ok (Outcome.Out n)) e = cc
+outcome-one (Ok Outcome.Kept) (Err r) e = cc
+outcome-one (Ok (Outcome.Out n)) (Ok Outcome.Kept) e = cc
+outcome-one (Ok (Outcome.Out n)) (Ok (Outcome.Out k)) e = let q : n ≡ k = cc in ap (λ (x : ℕ). Ok (Outcome.Out x)) q
+outcome-one (Ok (Outcome.Out n)) (Err r) e = cc
+outcome-one (Err r) (Ok Outcome.Kept) e = cc
+outcome-one (Err r) (Ok (Outcome.Out n)) e = cc
+outcome-one (Err r) (Err s) e = let q : number_of r ≡ number_of s = cc in ap Err (number-one r s q)
 
-pub listed-one : (y z : Listed) → of_listed y ≡ of_listed z → y ≡ z
-listed-one Listed.Accepted Listed.Accepted e = refl
-listed-one Listed.Accepted (Listed.Refused r) e = cc
-listed-one (Listed.Refused r) Listed.Accepted e = cc
-listed-one (Listed.Refused r) (Listed.Refused s) e = let q : number_of r ≡ number_of s = cc in ap Listed.Refused (number-one r s q)
+pub listed-one : (y z : Std.Result (Unit {0}) Refusal) → of_answer y ≡ of_answer z → y ≡ z
+listed-one = answer-one
 
 -- two answers, memories and outputs that meet the contract of a call are one
 pub received-one : (q : Result) (o₀ : List ℕ) (y z : Received) (m m' o o' : List ℕ) → Gives y m o₀ o q → Gives z m' o₀ o' q → (y ≡ z) × (m ≡ m') × (o ≡ o')
 received-one q o₀ y z m m' o o' A B =
     let a : y.answer ≡ z.answer = outcome-one y.answer z.answer (A.answer ∙ sym B.answer) in
     let t : y.table ≡ z.table = A.table ∙ sym B.table in
-    (ap₂ (λ (x : Outcome) (u : Table). record { answer = x; table = u }) a t, A.memory ∙ sym B.memory, A.output ∙ sym B.output)
+    (ap₂ (λ (x : Answered) (u : Table). record { answer = x; table = u }) a t, A.memory ∙ sym B.memory, A.output ∙ sym B.output)
 
 -- as for a part to one slot
 pub lands-one : (q : Put) (i : ℕ) (m₀ o₀ : List ℕ) (y z : InSlot) (m m' o o' : List ℕ) → Lands y i m₀ m o₀ o q → Lands z i m₀ m' o₀ o' q → (y ≡ z) × (m ≡ m') × (o ≡ o')
 lands-one q i m₀ o₀ y z m m' o o' A B =
     let a : y.outcome ≡ z.outcome = outcome-one y.outcome z.outcome (A.answer ∙ sym B.answer) in
     let t : y.slot ≡ z.slot = A.slot ∙ sym B.slot in
-    (ap₂ (λ (x : Outcome) (u : Slot). record { outcome = x; slot = u }) a t, A.memory ∙ sym B.memory, A.output ∙ sym B.output)
+    (ap₂ (λ (x : Answered) (u : Slot). record { outcome = x; slot = u }) a t, A.memory ∙ sym B.memory, A.output ∙ sym B.output)
 
-pub sits-one : (n : ℕ) (l : List Gateway) (y z : Listed) (g h : List Source) → Sits y g n l → Sits z h n l → (y ≡ z) × (g ≡ h)
-sits-one n l y z g h A B = (listed-one y z (A.answer ∙ sym B.answer), A.seated ∙ sym B.seated)
+-- as for the seats of a list
+pub sits-one : (n : ℕ) (l : List Gateway) (y z : Std.Result (List Source) Refusal) → of_answer y ≡ seated n (sources n l) → of_answer z ≡ seated n (sources n l) → y ≡ z
+sits-one n l y z A B = answer-one y z (A ∙ sym B)
 
-pub begun-one : (n : ℕ) (l : List Gateway) (y z : Listed) (t x u : Table) → Begins y t x n l → Begins z t u n l → (y ≡ z) × (x ≡ u)
+pub begun-one : (n : ℕ) (l : List Gateway) (y z : Std.Result (Unit {0}) Refusal) (t x u : Table) → Begins y t x n l → Begins z t u n l → (y ≡ z) × (x ≡ u)
 begun-one n l y z t x u A B = (listed-one y z (A.answer ∙ sym B.answer), A.table ∙ sym B.table)

@@ -1,14 +1,16 @@
 -- Nodes, sources, keys and the opening rule: equality as a test, and the rule answer by answer.
+use Rattle.ieee802154.specs.declared.addr.Pan.{Pan}
+use Rattle.std.specs.Prelude.{Option, Some, None}
 use Prim.Native.Nat.{ℕ, ◌≤◌, ◌<◌}
 use native.Mathlib.Omega.{arith}
-use mathlib.Core.Path.{◌≡◌, refl, sym, ap, ap₂, ◌∙◌}
-use mathlib.Core.Bool.{Bool, true, false, not, ◌&&◌}
+use mathlib.Core.Path.{◌≡◌, refl, ap, ap₂, ◌∙◌}
+use mathlib.Core.Bool.{Bool, true, false, ◌&&◌}
 use mathlib.Core.List.{List}
 use lib.ListN.{length}
 use lib.Dec.{eqb, ltb, leb}
 use borrow.Author.Tests.{eqb-true, eq-eqb, ne_eqb, le-leb, lt-leb, lt-ltb, le-ltb}
 use Rattle.reassembly.specs.Lists.{count, first_at, those}
-use Rattle.reassembly.specs.Slots.{node_of, same_node, source_of, same_source, present, same_key, is_free, gates_of, is_gate, held, free, idle_others, may_open, opening}
+use Rattle.reassembly.specs.Slots.{node_of, same_node, source_of, same_source, present, same_key, is_free, gates_of, held, free, idle_others, may_open, opening}
 use Rattle.reassembly.specs.declared.slot.Node.{Node}
 use Rattle.reassembly.specs.declared.slot.Source.{Source}
 use Rattle.reassembly.specs.declared.slot.Key.{Key}
@@ -16,10 +18,9 @@ use Rattle.reassembly.specs.declared.slot.Slot.{Slot}
 use Rattle.reassembly.specs.declared.table.Table.{Table}
 use Rattle.ieee802154.specs.declared.addr.Address.{Address}
 use Rattle.ieee802154.specs.Addressing.{pan_number}
-use Rattle.ieee802154.specs.declared.addr.PanField.{PanField}
 use Rattle.ieee802154.specs.declared.addr.Address.TheVariants.{Absent, Short, Extended}
 use Rattle.reassembly.proofs.Tests.{by_order, and_left, and_right}
-use Rattle.reassembly.proofs.Lists.{count-those, first_at-none}
+use Rattle.reassembly.proofs.Lists.{first_at-none}
 
 -- ---- equality as a test
 
@@ -77,14 +78,14 @@ node-one (Extended x) (Short y) e = cc (ap (λ (n : Node). n.kind) e)
 node-one (Extended x) (Extended y) e = ap Extended (ap (λ (n : Node). n.number) e)
 
 -- two PANs, or none, that the table holds alike are one
-pan-one : (p q : PanField) → pan_number p ≡ pan_number q → p ≡ q
-pan-one PanField.None PanField.None e = refl
-pan-one PanField.None (PanField.Some y) e = absurd (omega arith)
-pan-one (PanField.Some x) PanField.None e = absurd (omega arith)
-pan-one (PanField.Some x) (PanField.Some y) e = let h : x.0 ≡ y.0 = omega arith in ap (λ (n : ℕ). PanField.Some (record { 0 = n })) h
+pan-one : (p q : Option Pan) → pan_number p ≡ pan_number q → p ≡ q
+pan-one None None e = refl
+pan-one None (Some y) e = absurd (omega arith)
+pan-one (Some x) None e = absurd (omega arith)
+pan-one (Some x) (Some y) e = let h : x.0 ≡ y.0 = omega arith in ap (λ (n : ℕ). Some (record { 0 = n })) h
 
 -- "none" is a value and no wildcard: two senders that the table holds alike have one address and one PAN, or both have none
-pub source_one : (a b : Address) (p q : PanField) → source_of a p ≡ source_of b q → (a ≡ b) × (p ≡ q)
+pub source_one : (a b : Address) (p q : Option Pan) → source_of a p ≡ source_of b q → (a ≡ b) × (p ≡ q)
 source_one a b p q e = (node-one a b (ap (λ (s : Source). s.node) e), pan-one p q (ap (λ (s : Source). s.pan) e))
 
 -- ---- the gateways among the seats
@@ -92,24 +93,6 @@ source_one a b p q e = (node-one a b (ap (λ (s : Source). s.node) e), pan-one p
 pub gates-are : (t : Table) → those present t.gateways ≡ gates_of t
 unfolding gates_of
 gates-are t = refl
-
-abbrev pub seat : Source → Source → Bool
-seat a g = present g && same_source a g
-
-pub gate-yes : (a : Source) (l : List Source) → 1 ≤ count (seat a) l → true ≡ is_gate a (those present l)
-unfolding is_gate
-gate-yes a l h = sym (ap (leb 1) (count-those (same_source a) present l) ∙ le-leb 1 (count (seat a) l) h)
-
-pub gate-no : (a : Source) (l : List Source) → count (seat a) l ≡ 0 → false ≡ is_gate a (those present l)
-unfolding is_gate
-gate-no a l h = sym (ap (leb 1) (count-those (same_source a) present l ∙ h))
-
-abbrev pub idle_seat : List Slot → Source → Source → Bool
-idle_seat l g h = present h && (not (same_source h g) && eqb (held h l) 0)
-
-pub idle-seats : (t : Table) (g : Source) → idle_others g (gates_of t) t.slots ≡ count (idle_seat t.slots g) t.gateways
-unfolding idle_others gates_of
-idle-seats t g = count-those (λ h. not (same_source h g) && eqb (held h t.slots) 0) present t.gateways
 
 -- ---- the opening rule
 

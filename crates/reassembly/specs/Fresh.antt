@@ -1,18 +1,14 @@
 -- A table's beginning: the gateway list, 14 where it is refused, and eight free slots.
-use Rattle.std.specs.Prelude.{ℕ, ◌-◌, ◌≤◌, Bool, not, ◌||◌, ◌≡◌, List, [], ◌++◌, map, length, take, replicate, ltb, leb}
+use Rattle.octets.specs.declared.refusal.Refusal.{Refusal}
+use Rattle.std.specs.Prelude.{ℕ, ◌-◌, ◌≤◌, Bool, not, ◌||◌, ◌≡◌, List, ◌++◌, map, length, take, replicate, ltb, leb, Result}
 use Rattle.octets.specs.Read.{Answer, is, refused, choose}
-use Rattle.octets.specs.Refusal.{number_of}
+use Rattle.octets.specs.Answers.{of_answer}
 use Rattle.reassembly.specs.Lists.{count, those}
 use Rattle.reassembly.specs.Slots.{source_of, no_source, same_source, present, free_slot}
 use Rattle.reassembly.specs.Table.{State}
 use Rattle.reassembly.specs.declared.slot.Source.{Source}
 use Rattle.reassembly.specs.declared.table.Table.{Table}
-use Rattle.reassembly.specs.declared.table.Listed.{Listed}
 use Rattle.reassembly.specs.declared.table.Gateway.{Gateway}
-
-abbrev pub of_listed : Listed → Answer (Unit {0})
-of_listed Listed.Accepted = is tt
-of_listed (Listed.Refused e) = refused (number_of e)
 
 -- the seats of these gateways: four, an absent address in those that are left
 unfoldable pub seats : List Source → List Source
@@ -50,16 +46,15 @@ pub record Gateways (gs : List Source) : Type 0 where
 unfoldable pub listed : ℕ → List Source → Answer (Unit {0})
 listed n gs = choose (refused_list n gs) (refused 14) (is tt)
 
--- what `seat` answers, and the seats: nobody's where the list is refused
-pub record Sits (y : Listed) (g : List Source) (n : ℕ) (l : List Gateway) : Type 0 where
-  pub answer : of_listed y ≡ listed n (sources n l)
-  pub seated : g ≡ choose (refused_list n (sources n l)) (seats []) (seats (sources n l))
+-- what `seat` answers: the seats of the list
+unfoldable pub seated : ℕ → List Source → Answer (List Source)
+seated n gs = choose (refused_list n gs) (refused 14) (is (seats gs))
 
 -- what a list of n gateways makes of the table t: a refused list leaves it as it was
 unfoldable pub made : Table → ℕ → List Source → Table
 made t n gs = choose (refused_list n gs) t (fresh gs)
 
 -- the answer to a list, and the table afterwards, t before
-pub record Begins (y : Listed) (t x : Table) (n : ℕ) (l : List Gateway) : Type 0 where
-  pub answer : of_listed y ≡ listed n (sources n l)
+pub record Begins (y : Result (Unit {0}) Refusal) (t x : Table) (n : ℕ) (l : List Gateway) : Type 0 where
+  pub answer : of_answer y ≡ listed n (sources n l)
   pub table : x ≡ made t n (sources n l)

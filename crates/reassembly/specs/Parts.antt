@@ -1,8 +1,9 @@
 -- A part and one slot: the slot's record and its 2,048 bytes (the scope document, "Expansion and the slot table").
-use Rattle.std.specs.Prelude.{ℕ, ◌+◌, ◌*◌, ◌-◌, ◌/◌, ◌%◌, ◌≤◌, ◌≡◌, Bool, true, false, not, ◌&&◌, ◌||◌, List, length, get_or, take, drop, eqb, leb}
+use Rattle.std.specs.Prelude.{ℕ, ◌+◌, ◌*◌, ◌-◌, ◌/◌, ◌%◌, ◌≤◌, ◌≡◌, Bool, true, false, not, ◌&&◌, ◌||◌, List, length, get_or, take, drop, eqb, leb, Result, Ok, Err}
 use Rattle.octets.specs.Read.{choose}
 use Rattle.octets.specs.Write.{put}
 use Rattle.octets.specs.Refusal.{number_of}
+use Rattle.octets.specs.declared.refusal.Refusal.{Refusal}
 use Rattle.expand.specs.Sum.{summed_by, holds}
 use Rattle.expand.specs.declared.checksum.UdpSum.{UdpSum}
 use Rattle.marks.specs.Marks.{has_in, fill, unpack, pack}
@@ -40,10 +41,14 @@ told kept = kept
 told (out d) = out (length d)
 told (refused n) = refused n
 
-abbrev pub of_outcome : Outcome → Reply ℕ
-of_outcome Outcome.Kept = kept
-of_outcome (Outcome.Out n) = out n
-of_outcome (Outcome.Refused e) = refused (number_of e)
+-- a call's answer in the code
+abbrev pub Answered : Type 0
+Answered = Result Outcome Refusal
+
+abbrev pub of_outcome : Answered → Reply ℕ
+of_outcome (Ok Outcome.Kept) = kept
+of_outcome (Ok (Outcome.Out n)) = out n
+of_outcome (Err e) = refused (number_of e)
 
 -- the output after a call: a datagram stands at its start, and nothing else of it changes
 abbrev pub output_after : Reply (List ℕ) → List ℕ → List ℕ
@@ -144,7 +149,7 @@ pub record Placeable (size u : ℕ) (part b o : List ℕ) : Type 0 where
   pub output : 2047 ≤ length o
 
 -- the answer r and the output o, o₀ before, are as a says
-pub record Hands (r : Outcome) (o₀ o : List ℕ) (a : Reply (List ℕ)) : Type 0 where
+pub record Hands (r : Answered) (o₀ o : List ℕ) (a : Reply (List ℕ)) : Type 0 where
   pub answer : of_outcome r ≡ told a
   pub output : o ≡ output_after a o₀
 

@@ -1,9 +1,9 @@
 -- Addresses, keys, slots and gateways as the table holds them (the scope document, "Expansion and the slot table").
-use Rattle.std.specs.Prelude.{ℕ, ◌-◌, Bool, not, ◌&&◌, ◌||◌, List, [], ◌∷◌, replicate, eqb, ltb, leb}
+use Rattle.ieee802154.specs.declared.addr.Pan.{Pan}
+use Rattle.std.specs.Prelude.{ℕ, ◌-◌, Bool, not, ◌&&◌, ◌||◌, List, [], ◌∷◌, replicate, eqb, ltb, leb, Option}
 use Rattle.octets.specs.Read.{choose}
 use Rattle.ieee802154.specs.declared.addr.Address.{Address}
 use Rattle.ieee802154.specs.declared.addr.Address.TheVariants.{Absent, Short, Extended}
-use Rattle.ieee802154.specs.declared.addr.PanField.{PanField}
 use Rattle.ieee802154.specs.Addressing.{pan_number}
 use Rattle.expand.specs.Sum.{no_sum}
 use Rattle.reassembly.specs.Lists.{count, first_at, those}
@@ -29,7 +29,7 @@ unfoldable pub addressed : Node → Bool
 addressed a = not (eqb a.kind 0)
 
 -- ---- who sends: an address with its PAN, or with none
-abbrev pub source_of : Address → PanField → Source
+abbrev pub source_of : Address → Option Pan → Source
 source_of a p = record { node = node_of a; pan = pan_number p }
 
 unfoldable pub no_source : Source

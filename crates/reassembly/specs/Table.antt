@@ -5,11 +5,10 @@ use Rattle.octets.specs.Read.{choose}
 use Rattle.octets.specs.Write.{put}
 use Rattle.reassembly.specs.Lists.{count, first_at}
 use Rattle.reassembly.specs.Slots.{same_key, owner, free_slot, opened, is_free, is_key, expired, expire, gates_of, is_gate, may_open}
-use Rattle.reassembly.specs.Parts.{Part, Reply, refused, told, of_outcome, output_after, fits, Put, place, offer}
+use Rattle.reassembly.specs.Parts.{Part, Reply, refused, told, Answered, of_outcome, output_after, fits, Put, place, offer}
 use Rattle.reassembly.specs.declared.slot.Key.{Key}
 use Rattle.reassembly.specs.declared.slot.Source.{Source}
 use Rattle.reassembly.specs.declared.slot.Slot.{Slot}
-use Rattle.reassembly.specs.declared.part.Outcome.{Outcome}
 use Rattle.reassembly.specs.declared.part.InSlot.{InSlot}
 use Rattle.reassembly.specs.declared.table.Table.{Table}
 
@@ -146,7 +145,7 @@ pub record Lands (r : InSlot) (i : ℕ) (m₀ m o₀ o : List ℕ) (q : Put) : T
 
 -- the answer of a call, and the table after it
 pub record Received : Type 0 where
-  pub answer : Outcome
+  pub answer : Answered
   pub table : Table
 
 -- the answer r, the lent memory m and the output o, o₀ before, are as the result says

@@ -18,4 +18,4 @@ pub mod table;
 
 pub use part::{InSlot, Outcome};
 pub use slot::{Key, Node, Slot, Source};
-pub use table::{Gateway, Listed, Seated, Table, Target, is_short, seat, take_at};
+pub use table::{Gateway, Table, Target, is_short, seat, take_at};

@@ -27,38 +27,40 @@ pub struct Part {
     pub sum: UdpSum,
 }
 
-// What a call comes to: the part is kept; a datagram of so many bytes stands at the output's start; or a refusal.
+// What a call comes to that is not refused: the part is kept, or a datagram of so many bytes stands at the output's
+// start.
 #[derive(Clone, Copy)]
 pub enum Outcome {
     Kept,
     Out(usize),
-    Refused(Refusal),
 }
 
-// What a part comes to in its slot: the answer, and the record after it.
+// What a part comes to in its slot: the answer, and the record after it, which a refusal may change too.
 #[derive(Clone, Copy)]
 pub struct InSlot {
-    pub outcome: Outcome,
+    pub outcome: Result<Outcome, Refusal>,
     pub slot: Slot,
 }
 
+// Not `==` of slices: its code for any length takes 1,800 bytes of a controller's flash (bench/size, the limit on what
+// receives).
 fn same_bytes(a: &[u8], b: &[u8]) -> bool
     ensures { result ≡ same_list a.now b.now }
 {
     if a.len() != b.len() {
         return false;
     }
-    let mut i: usize = 0;
-    while i < a.len() {
+    // By the index: slices are taken so in the crates under `lift_c` (docs/DECISIONS.md).
+    for i in 0..a.len() {
         if a[i] != b[i] {
             return false;
         }
-        i = i + 1;
     }
     true
 }
 
-// The units of 8 bytes that n bytes take.
+// The units of 8 bytes that n bytes take. That n is at most 2,047 is one number's bound, said where it is needed.
+#[tactic(auto, unfolding(crate::specs::Parts::units))]
 fn units_of(n: usize) -> usize
     requires { n ≤ 2047 }
     ensures { (result ≡ units n) × (result ≤ 256) }
@@ -67,50 +69,29 @@ fn units_of(n: usize) -> usize
 }
 
 // Whether a part of n bytes is one of a datagram of so many bytes: check 10.
+#[tactic(auto, unfolding(crate::specs::Parts::fits_in))]
 pub fn fits(size: u16, offset: Units, n: usize) -> bool
     ensures { result ≡ fits_in size offset.0 n }
 {
     let total = size as usize;
-    if total < SMALLEST {
-        return false;
-    }
-    if LARGEST < total {
-        return false;
-    }
-    if n < 1 {
-        return false;
-    }
-    if total < n {
+    if total < SMALLEST || (LARGEST < total || (n < 1 || total < n)) {
         return false;
     }
     let end = offset.bytes() + n;
-    if total < end {
-        return false;
-    }
-    if n % 8 == 0 {
-        return true;
-    }
-    end == total
+    end <= total && (n % 8 == 0 || end == total)
 }
 
 // Whether a part that was taken lies exactly from unit u to unit e.
+// Two arrays of marks side by side, as the slot has them by value (a rule of the project).
+#[tactic(auto, unfolding(crate::specs::Parts::spans))]
 fn is_span(covered: [u64; 4], starts: [u64; 4], u: usize, e: usize) -> bool
     requires { u < 256 }
     ensures { result ≡ spans (unpack covered) (unpack starts) u e }
 {
-    if marks::marked(starts, u) {
-        if marks::has_mark(covered, false, u, e) {
-            return false;
-        }
-        if marks::has_mark(starts, true, u + 1, e) {
-            return false;
-        }
-        if marks::marked(covered, e) {
-            return marks::marked(starts, e);
-        }
-        return true;
-    }
-    false
+    marks::marked(starts, u)
+        && (!marks::has_mark(covered, false, u, e)
+            && (!marks::has_mark(starts, true, u + 1, e)
+                && (!marks::marked(covered, e) || marks::marked(starts, e))))
 }
 
 // Whether the very part was taken before: at its place, of its length, with its bytes.
@@ -119,15 +100,9 @@ fn is_repeat(s: Slot, room: &[u8], offset: Units, part: &[u8]) -> bool
     ensures { result ≡ repeats_in s room.now offset.0 part.now }
 {
     let u = offset.0 as usize;
-    let e = u + units_of(part.len());
-    let covered = s.covered;
-    let starts = s.starts;
-    if is_span(covered, starts, u, e) {
-        let at = offset.bytes();
-        let to = at + part.len();
-        return same_bytes(&room[at..to], part);
-    }
-    false
+    let at = offset.bytes();
+    let to = at + part.len();
+    is_span(s.covered, s.starts, u, u + units_of(part.len())) && same_bytes(&room[at..to], part)
 }
 
 // Whether a part of n bytes touches a taken one.
@@ -151,43 +126,34 @@ fn with_part(s: Slot, part: Part, n: usize) -> Slot
     requires { n ≤ 2047 }
     ensures { result ≡ taken_in s part.offset.0 part.sum n }
 {
-    let offset = part.offset;
-    let sum = part.sum;
-    let u = offset.0 as usize;
-    let mut f = s;
-    let covered = f.covered;
-    let c = marks::mark(covered, u, u + units_of(n));
-    f.covered = c;
-    let starts = f.starts;
-    let b = marks::mark_one(starts, u);
-    f.starts = b;
-    let was = s.sum;
-    let m = remembered(offset, sum, was);
-    f.sum = m;
-    f
+    let u = part.offset.0 as usize;
+    Slot {
+        covered: marks::mark(s.covered, u, u + units_of(n)),
+        starts: marks::mark_one(s.starts, u),
+        sum: remembered(part.offset, part.sum, s.sum),
+        ..s
+    }
 }
 
 fn is_full(s: Slot) -> bool
     requires { s.key.size ≤ 2047 }
     ensures { result ≡ full s }
 {
-    let k = s.key;
-    let covered = s.covered;
-    !marks::has_mark(covered, false, 0, units_of(k.size as usize))
+    !marks::has_mark(s.covered, false, 0, units_of(s.key.size as usize))
 }
 
 // The datagram goes to the output's start, its checksum computed where it was elided. One that was carried is tested
 // first: where it does not hold nothing is handed out, 17.
-fn hand_out(room: &[u8], size: usize, sum: UdpSum, out: &mut [u8]) -> Outcome
+fn hand_out(room: &[u8], size: usize, sum: UdpSum, out: &mut [u8]) -> Result<Outcome, Refusal>
     requires { (size ≤ 2047) × (size ≤ length room.now) × (size ≤ length out.old) }
     ensures { Hands result out.old out.new (handed sum (take size room.now)) }
 {
-    if is_right(room, size, sum) {
-        put_slice(out, 0, room, 0, size);
-        put_checksum(out, size, sum);
-        return Outcome::Out(size);
+    if !is_right(room, size, sum) {
+        return Err(Refusal::BadChecksum);
     }
-    Outcome::Refused(Refusal::BadChecksum)
+    put_slice(out, 0, room, 0, size);
+    put_checksum(out, size, sum);
+    Ok(Outcome::Out(size))
 }
 
 // Takes a part that touches nothing taken: its bytes are written at their place and its units marked. Full cover hands
@@ -197,22 +163,22 @@ fn place_part(s: Slot, room: &mut [u8], part: Part, bytes: &[u8], out: &mut [u8]
     ensures { Does result room.new out.old out.new
         (place s room.old (with_bytes part bytes.now)) }
 {
-    let offset = part.offset;
-    put_slice(room, offset.bytes(), bytes, 0, bytes.len());
+    put_slice(room, part.offset.bytes(), bytes, 0, bytes.len());
     let slot = with_part(s, part, bytes.len());
     if is_full(slot) {
-        let k = slot.key;
-        let size = k.size as usize;
-        let m = slot.sum;
-        let outcome = hand_out(room, size, m, out);
-        let slot = Slot::free();
-        return InSlot { outcome, slot };
+        return InSlot {
+            outcome: hand_out(room, slot.key.size as usize, slot.sum, out),
+            slot: Slot::free(),
+        };
     }
-    let outcome = Outcome::Kept;
-    InSlot { outcome, slot }
+    InSlot {
+        outcome: Ok(Outcome::Kept),
+        slot,
+    }
 }
 
 // A part that comes under the slot's key.
+// Record, part and bytes apart from the two lent rooms: `offer` of specs/Parts.antt takes them so.
 pub(crate) fn offer_part(
     s: Slot,
     room: &mut [u8],
@@ -224,17 +190,17 @@ pub(crate) fn offer_part(
     ensures { Does result room.new out.old out.new
         (offer s room.old (with_bytes part bytes.now)) }
 {
-    let offset = part.offset;
-    if is_repeat(s, room, offset, bytes) {
-        let slot = s;
-        let outcome = Outcome::Kept;
-        return InSlot { outcome, slot };
+    if is_repeat(s, room, part.offset, bytes) {
+        return InSlot {
+            outcome: Ok(Outcome::Kept),
+            slot: s,
+        };
     }
-    let covered = s.covered;
-    if is_touching(covered, offset, bytes.len()) {
-        let slot = Slot::free();
-        let outcome = Outcome::Refused(Refusal::Clash);
-        return InSlot { outcome, slot };
+    if is_touching(s.covered, part.offset, bytes.len()) {
+        return InSlot {
+            outcome: Err(Refusal::Clash),
+            slot: Slot::free(),
+        };
     }
     place_part(s, room, part, bytes, out)
 }

@@ -1,14 +1,16 @@
 // Addresses, keys and slots as the table holds them: numbers of 8 bytes, so that a table by value is quick to copy.
+// Kinds and `live` are such numbers, and nobody is an address of kind 0, since each 64-bit number of the 149 is one
+// table (`table-one`; include/lift.h, `lift_table`): an enum or an Option has fewer values.
 ghost use Rattle.std.specs.Prelude.{◌≡◌, ◌&&◌, ◌-◌, eqb, leb};
-ghost use Rattle.reassembly.specs.Slots.{node_of, same_node, addressed, source_of, same_source, present, same_key};
-ghost use Rattle.reassembly.specs.Slots.{no_key, free_slot, opened, is_key, is_of};
+ghost use Rattle.reassembly.specs.Slots.{node_of, addressed, source_of, present, free_slot, opened, is_key, is_of};
 
 use expand::checksum::UdpSum;
-use ieee802154::{Address, PanField};
+use ieee802154::addr::pan_number;
+use ieee802154::{Address, Pan};
 
 // An address as two numbers: its kind (0 absent, 1 short, 2 extended) and its value, 0 where it is absent.
 #[repr(C)]
-#[derive(Clone, Copy)]
+#[derive(Clone, Copy, PartialEq, Eq)]
 pub struct Node {
     pub kind: u64,
     pub number: u64,
@@ -16,7 +18,7 @@ pub struct Node {
 
 // Who sends: an address, and the number of its PAN, 0 where there is none.
 #[repr(C)]
-#[derive(Clone, Copy)]
+#[derive(Clone, Copy, PartialEq, Eq)]
 pub struct Source {
     pub node: Node,
     pub pan: u64,
@@ -24,7 +26,7 @@ pub struct Source {
 
 // What tells one datagram's parts from another's.
 #[repr(C)]
-#[derive(Clone, Copy)]
+#[derive(Clone, Copy, PartialEq, Eq)]
 pub struct Key {
     pub src: Source,
     pub dst: Node,
@@ -48,25 +50,7 @@ pub struct Slot {
 impl Node {
     pub const NONE: Node = Node { kind: 0, number: 0 };
 
-    pub fn of(a: Address) -> Node
-        ensures { result ≡ node_of a }
-    {
-        match a {
-            Address::Absent => Node { kind: 0, number: 0 },
-            Address::Short(x) => Node {
-                kind: 1,
-                number: x as u64,
-            },
-            Address::Extended(x) => Node { kind: 2, number: x },
-        }
-    }
-
-    pub fn same(self, b: Node) -> bool
-        ensures { result ≡ same_node self b }
-    {
-        self.kind == b.kind && self.number == b.number
-    }
-
+    #[tactic(auto, unfolding(crate::specs::Slots::addressed))]
     pub fn is_present(self) -> bool
         ensures { result ≡ addressed self }
     {
@@ -74,61 +58,53 @@ impl Node {
     }
 }
 
+impl From<Address> for Node {
+    ghost from_gives = { λ a n. n ≡ node_of a };
+
+    fn from(a: Address) -> Node {
+        match a {
+            Address::Absent => Node::NONE,
+            Address::Short(x) => Node {
+                kind: 1,
+                number: x as u64,
+            },
+            Address::Extended(x) => Node { kind: 2, number: x },
+        }
+    }
+}
+
 impl Source {
     pub const NONE: Source = Source {
-        node: Node { kind: 0, number: 0 },
+        node: Node::NONE,
         pan: 0,
     };
 
-    pub fn of(a: Address, pan: PanField) -> Source
+    // Of two things, as `source_of` of specs/Slots.antt: a `From` would take them as a tuple, which is no plainer.
+    pub fn of(a: Address, pan: Option<Pan>) -> Source
         ensures { result ≡ source_of a pan }
     {
-        let node = Node::of(a);
-        let pan = pan.number();
-        Source { node, pan }
+        Source {
+            node: Node::from(a),
+            pan: pan_number(pan),
+        }
     }
 
-    pub fn same(self, b: Source) -> bool
-        ensures { result ≡ same_source self b }
-    {
-        let node = self.node;
-        let other = b.node;
-        node.same(other) && self.pan == b.pan
-    }
-
+    #[tactic(auto, unfolding(crate::specs::Slots::present))]
     pub fn is_present(self) -> bool
         ensures { result ≡ present self }
     {
-        let node = self.node;
-        node.is_present()
+        self.node.is_present()
     }
 }
 
 impl Key {
     // The key of no datagram, where there is none.
-    pub fn none() -> Key
-        ensures { result ≡ no_key }
-    {
-        Key {
-            src: Source {
-                node: Node { kind: 0, number: 0 },
-                pan: 0,
-            },
-            dst: Node { kind: 0, number: 0 },
-            size: 0,
-            tag: 0,
-        }
-    }
-
-    pub fn same(self, b: Key) -> bool
-        ensures { result ≡ same_key self b }
-    {
-        let src = self.src;
-        let dst = self.dst;
-        let other_src = b.src;
-        let other_dst = b.dst;
-        src.same(other_src) && (dst.same(other_dst) && (self.size == b.size && self.tag == b.tag))
-    }
+    pub const NONE: Key = Key {
+        src: Source::NONE,
+        dst: Node::NONE,
+        size: 0,
+        tag: 0,
+    };
 }
 
 impl Slot {
@@ -136,9 +112,8 @@ impl Slot {
     pub fn free() -> Slot
         ensures { result ≡ free_slot }
     {
-        let key = Key::none();
         Slot {
-            key,
+            key: Key::NONE,
             since: 0,
             covered: [0u64; 4],
             starts: [0u64; 4],
@@ -148,6 +123,7 @@ impl Slot {
     }
 
     // A slot as it is opened under a key.
+    #[tactic(auto, unfolding(crate::specs::Slots::opened))]
     pub fn opened(key: Key, time: u64) -> Slot
         ensures { result ≡ opened key time }
     {
@@ -164,16 +140,13 @@ impl Slot {
     pub fn has_key(self, k: Key) -> bool
         ensures { result ≡ is_key k self }
     {
-        let own = self.key;
-        self.live == 1 && own.same(k)
+        self.live == 1 && self.key == k
     }
 
     pub fn is_of(self, g: Source) -> bool
         ensures { result ≡ is_of g self }
     {
-        let own = self.key;
-        let src = own.src;
-        self.live == 1 && src.same(g)
+        self.live == 1 && self.key.src == g
     }
 }
 
@@ -184,5 +157,5 @@ pub const LIFETIME: u64 = 60000;
 pub fn is_expired(live: u64, since: u64, time: u64) -> bool
     ensures { result ≡ (eqb live 1 && leb 60000 (time - since)) }
 {
-    live == 1 && (since <= time && LIFETIME <= time - since)
+    live == 1 && LIFETIME <= time.saturating_sub(since)
 }

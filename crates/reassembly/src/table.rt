@@ -1,18 +1,16 @@
 // The slot table: what it is, the list of its gateways, and a part taken by one of its slots.
-ghost use Rattle.std.specs.Prelude.{◌≡◌, ◌||◌, ◌+◌, ◌*◌, ◌<◌, ◌≤◌, length, take, replicate, ltb, leb};
+ghost use Rattle.std.specs.Prelude.{◌≡◌, Err, ◌||◌, ◌+◌, ◌*◌, ◌<◌, ◌≤◌, length, ltb, leb};
+ghost use Rattle.octets.specs.Answers.{of_answer};
 ghost use Rattle.octets.specs.Read.{choose};
-ghost use Rattle.octets.specs.declared.refusal.Refusal.{Refusal};
-ghost use Rattle.reassembly.specs.declared.part.Outcome.{Outcome};
-ghost use Rattle.reassembly.specs.declared.table.Listed.{Listed};
 ghost use Rattle.reassembly.specs.Lists.{count};
-ghost use Rattle.reassembly.specs.Slots.{no_source, same_source, opened, is_key};
+ghost use Rattle.reassembly.specs.Slots.{same_source, opened, is_key};
 ghost use Rattle.reassembly.specs.Parts.{with_bytes, offer, Placeable};
 ghost use Rattle.reassembly.specs.Table.{chunk, take_at, Lands};
-ghost use Rattle.reassembly.specs.Fresh.{seats, sources, unfit, Sits};
+ghost use Rattle.reassembly.specs.Fresh.{seats, sources, unfit, seated};
 
-use super::part::{InSlot, LARGEST, Outcome, Part, fits, offer_part};
+use super::part::{InSlot, LARGEST, Part, fits, offer_part};
 use super::slot::{Key, Slot, Source};
-use ieee802154::{Address, PanField};
+use ieee802154::{Address, Pan};
 use octets::refusal::Refusal;
 
 // The slots of a table, the bytes of memory that each has, and of all together.
@@ -26,7 +24,7 @@ pub const LENT: usize = 16384;
 #[derive(Clone, Copy)]
 pub struct Gateway {
     pub addr: Address,
-    pub pan: PanField,
+    pub pan: Option<Pan>,
 }
 
 // What a table is: the slots, the last time taken, and the gateways; a seat without one holds an absent address. Its
@@ -46,43 +44,19 @@ pub struct Target {
     pub time: u64,
 }
 
-// Whether a gateway list was taken.
-#[derive(Clone, Copy)]
-pub enum Listed {
-    Accepted,
-    Refused(Refusal),
-}
-
-// A gateway list, judged, and its seats; nobody's where it was refused.
-#[derive(Clone, Copy)]
-pub struct Seated {
-    pub answer: Listed,
-    pub seats: [Source; 4],
-}
-
 // The seats of the first `count` of these gateways: 14 where there are more than four, two that are equal, or one whose
-// address is absent.
-pub fn seat(gateways: [Gateway; 4], count: usize) -> Seated
-    ensures { Sits result.answer result.seats count gateways }
+// address is absent. A count beside them: over four are counted and not held (lift's flat list).
+pub fn seat(gateways: [Gateway; 4], count: usize) -> Result<[Source; 4], Refusal>
+    ensures { of_answer result ≡ seated count (sources count gateways) }
 {
     if 4 < count {
-        return nobody();
+        return Err(Refusal::BadGateways);
     }
     let seats = seat_all(gateways, count);
-    if has_unfit(seats, count) {
-        return nobody();
+    if has_unfit(&seats[0..count]) {
+        return Err(Refusal::BadGateways);
     }
-    let answer = Listed::Accepted;
-    Seated { answer, seats }
-}
-
-fn nobody() -> Seated
-    ensures { (result.answer ≡ Listed.Refused Refusal.BadGateways) × (result.seats ≡ replicate 4 no_source) }
-{
-    let n = Source::NONE;
-    let seats = [n; 4];
-    let answer = Listed::Refused(Refusal::BadGateways);
-    Seated { answer, seats }
+    Ok(seats)
 }
 
 // The seats of the first `count` gateways.
@@ -90,56 +64,44 @@ fn seat_all(gateways: [Gateway; 4], count: usize) -> [Source; 4]
     requires { count ≤ 4 }
     ensures { result ≡ seats (sources count gateways) }
 {
-    let n = Source::NONE;
-    let mut all = [n; 4];
-    let mut i: usize = 0;
-    while i < count {
-        let g = gateways[i];
-        let addr = g.addr;
-        let pan = g.pan;
-        let s = Source::of(addr, pan);
-        all[i] = s;
-        i = i + 1;
+    // By place, since a `map` over the four would fill the seats behind `count` too.
+    let mut all = [Source::NONE; 4];
+    for i in 0..count {
+        all[i] = Source::of(gateways[i].addr, gateways[i].pan);
     }
     all
 }
 
-// How many of the first `size` seats are g's.
-fn count_seats(seats: [Source; 4], size: usize, g: Source) -> usize
-    requires { size ≤ 4 }
-    ensures { result ≡ count (same_source g) (take size seats) }
+// How many of the seats are g's.
+fn count_seats(seats: &[Source], g: Source) -> usize
+    ensures { result ≡ count (same_source g) seats.now }
 {
-    let mut n: usize = 0;
-    let mut i: usize = 0;
-    while i < size {
-        let h = seats[i];
-        if g.same(h) {
-            n = n + 1;
+    // By place, here and below: a reference in an Option, which a slice's iterator hands out, is not compiled right for
+    // controllers of 32 bits (examples/cortex-m).
+    let mut n = 0;
+    for i in 0..seats.len() {
+        if g == seats[i] {
+            n += 1;
         }
-        i = i + 1;
     }
     n
 }
 
-// Whether a seat's address is absent, or stands twice among the first `size`.
-fn is_unfit(seats: [Source; 4], size: usize, g: Source) -> bool
-    requires { size ≤ 4 }
-    ensures { result ≡ unfit (take size seats) g }
+// Whether a seat's address is absent, or stands twice among them.
+#[tactic(auto, unfolding(crate::specs::Fresh::unfit))]
+fn is_unfit(seats: &[Source], g: Source) -> bool
+    ensures { result ≡ unfit seats.now g }
 {
-    !g.is_present() || 1 < count_seats(seats, size, g)
+    !g.is_present() || 1 < count_seats(seats, g)
 }
 
-fn has_unfit(seats: [Source; 4], size: usize) -> bool
-    requires { size ≤ 4 }
-    ensures { result ≡ leb 1 (count (unfit (take size seats)) (take size seats)) }
+fn has_unfit(seats: &[Source]) -> bool
+    ensures { result ≡ leb 1 (count (unfit seats.now) seats.now) }
 {
-    let mut i: usize = 0;
-    while i < size {
-        let g = seats[i];
-        if is_unfit(seats, size, g) {
+    for i in 0..seats.len() {
+        if is_unfit(seats, seats[i]) {
             return true;
         }
-        i = i + 1;
     }
     false
 }
@@ -152,6 +114,7 @@ pub fn is_short(mem: usize, out: usize) -> bool
 }
 
 // A part under the key of slot i, whose record is s; the slot's bytes are lent on.
+// (The bound on i is that of an index.)
 fn offer_at(s: Slot, i: usize, part: Part, bytes: &[u8], mem: &mut [u8], out: &mut [u8]) -> InSlot
     requires i_bound { (i < 8) × (16384 ≤ length mem.old) }
     requires placeable { Placeable s.key.size part.offset.0 bytes.now (chunk i mem.old) out.old }
@@ -171,18 +134,16 @@ pub fn take_at(to: Target, part: Part, bytes: &[u8], mem: &mut [u8], out: &mut [
         (take_at to.slot to.index to.time (with_bytes part bytes.now) mem.old
         out.old) }
 {
-    let s = to.slot;
-    let key = part.key;
     if is_short(mem.len(), out.len()) {
-        return stays(s, Refusal::NoRoom);
+        return stays(to.slot, Refusal::NoRoom);
     }
-    if !fits(key.size, part.offset, bytes.len()) {
-        return stays(s, Refusal::BadPart);
+    if !fits(part.key.size, part.offset, bytes.len()) {
+        return stays(to.slot, Refusal::BadPart);
     }
     if SLOTS <= to.index {
-        return stays(s, Refusal::NoSlot);
+        return stays(to.slot, Refusal::NoSlot);
     }
-    let z = slot_for(s, key, to.time);
+    let z = slot_for(to.slot, part.key, to.time);
     offer_at(z, to.index, part, bytes, mem, out)
 }
 
@@ -191,15 +152,18 @@ fn slot_for(s: Slot, key: Key, time: u64) -> Slot
     ensures { result ≡ choose (is_key key s) s (opened key time) }
 {
     if s.has_key(key) {
-        return s;
+        s
+    } else {
+        Slot::opened(key, time)
     }
-    Slot::opened(key, time)
 }
 
 // A refusal that leaves the slot as it was.
 fn stays(slot: Slot, e: Refusal) -> InSlot
-    ensures { result ≡ record { outcome = Outcome.Refused e; slot = slot } }
+    ensures { result ≡ record { outcome = Err e; slot = slot } }
 {
-    let outcome = Outcome::Refused(e);
-    InSlot { outcome, slot }
+    InSlot {
+        outcome: Err(e),
+        slot,
+    }
 }

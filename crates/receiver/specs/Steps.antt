@@ -3,24 +3,18 @@
 use Rattle.std.specs.Prelude.{ℕ, ◌≤◌, ◌≡◌, true, false, ◌||◌, List, length, eqb, ltb}
 use Rattle.octets.specs.Read.{Answer, is, choose}
 use Rattle.octets.specs.Read as Read
-use Rattle.octets.specs.Refusal.{number_of}
 use Rattle.reassembly.specs.Lists.{first_at}
 use Rattle.incoming.specs.Incoming.{arrival}
 use Rattle.incoming.specs.declared.arrival.Arrival.{Arrival}
 use Rattle.reassembly.specs.Slots.{node_of, addressed, owner, is_key, gates_of, is_gate, opening}
-use Rattle.reassembly.specs.Parts.{Part, Reply, told, of_outcome, output_after}
+use Rattle.reassembly.specs.Parts.{Part, Reply, Answered}
 use Rattle.reassembly.specs.Table.{Result, from, part, step, Aged, Gives}
-use Rattle.reassembly.specs.declared.part.Outcome.{Outcome}
 use Rattle.reassembly.specs.declared.slot.Source.{Source}
+use Rattle.reassembly.specs.declared.slot.Key.{Key}
 use Rattle.reassembly.specs.declared.table.Table.{Table}
 use Rattle.receiver.specs.Receive.{sender_of, frame_call, call_of}
-use Rattle.receiver.specs.declared.Judged.{Judged}
 
 -- ---- the time
-abbrev pub of_judged : Judged → Answer (Unit {0})
-of_judged Judged.Taken = is tt
-of_judged (Judged.Refused e) = Read.refused (number_of e)
-
 -- 7; 8: a call at the time t, the table's last one l, with m bytes of memory and o of output lent
 unfoldable pub judged : ℕ → ℕ → ℕ → ℕ → Answer (Unit {0})
 judged l t m o = choose (ltb m 16384 || ltb o 2047) (Read.refused 7) (choose (ltb t l) (Read.refused 8) (is tt))
@@ -52,31 +46,26 @@ GateSays gs ctx t s a = (g : Source) × (is_gate g gs ≡ true) × (frame_call c
 abbrev pub GateBrings : List Source → List ℕ → ℕ → List ℕ → Part → Type 0
 GateBrings gs ctx t s p = (is_gate (owner p.key) gs ≡ true) × (frame_call ctx t s ≡ part t p)
 
--- the answer r and the output o, o₀ before, are as a says
-pub record HandsOver (r : Outcome) (o₀ o : List ℕ) (a : Reply (List ℕ)) : Type 0 where
-  pub answer : of_outcome r ≡ told a
-  pub output : o ≡ output_after a o₀
-
 -- what the call on the frame s comes to
 abbrev pub called : Table → ℕ → List ℕ → List ℕ → List ℕ → List ℕ → Result
 called tb t s ctx m o = step (record { table = tb; mem = m }) (call_of m o ctx t s)
 
 -- a frame s to the table x, which has taken the time t: of every table tb that x was, the answer r, and afterwards the table x', the memory
 -- m' and the output o', are what `step` says
-abbrev pub ReceivesIn : Table → ℕ → List ℕ → List ℕ → Outcome → Table → List ℕ → List ℕ → List ℕ → List ℕ → Type 0
+abbrev pub ReceivesIn : Table → ℕ → List ℕ → List ℕ → Answered → Table → List ℕ → List ℕ → List ℕ → List ℕ → Type 0
 ReceivesIn x t s ctx r x' m m' o o' = (tb : Table) → Timed tb x t m o → Gives (record { answer = r; table = x' }) m' o o' (called tb t s ctx m o)
 
--- ---- the part: the slot that is open under its key, or 8; the one that it may open, or 8
-abbrev pub open_slot : Table → Part → ℕ
-open_slot x p = first_at (is_key p.key) x.slots
+-- ---- the part: the slot that is open under its key k, or 8; the one that it may open, or 8
+abbrev pub open_slot : Table → Key → ℕ
+open_slot x k = first_at (is_key k) x.slots
 
-abbrev pub new_slot : Table → Part → ℕ
-new_slot x p = opening (owner p.key) (gates_of x) x.slots
+abbrev pub new_slot : Table → Key → ℕ
+new_slot x k = opening (owner k) (gates_of x) x.slots
 
 -- the one that it goes to, or 8
-unfoldable pub slot_for : Table → Part → ℕ
-slot_for x p = choose (eqb (open_slot x p) 8) (new_slot x p) (open_slot x p)
+unfoldable pub slot_for : Table → Key → ℕ
+slot_for x k = choose (eqb (open_slot x k) 8) (new_slot x k) (open_slot x k)
 
 -- the part p to the table x: of every frame s of a gateway that brings it, as `ReceivesIn` says
-abbrev pub TakesIn : Table → ℕ → Part → Outcome → Table → List ℕ → List ℕ → List ℕ → List ℕ → Type 0
+abbrev pub TakesIn : Table → ℕ → Part → Answered → Table → List ℕ → List ℕ → List ℕ → List ℕ → Type 0
 TakesIn x t p r x' m m' o o' = (s ctx : List ℕ) → GateBrings (gates_of x) ctx t s p → ReceivesIn x t s ctx r x' m m' o o'

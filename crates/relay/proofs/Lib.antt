@@ -1,4 +1,3 @@
-pub mod Steps
 pub mod Puts
 pub mod Trips
 pub mod Unique

@@ -1,4 +1,5 @@
 -- The headers that were read, taken apart: each as its own reader gives it, no third behind them, and no address of them absent.
+use Rattle.std.specs.Prelude.{Option, Some, None}
 use Prim.Native.Nat.{ℕ, ◌/◌, ◌%◌}
 use mathlib.Core.List.{List}
 use mathlib.Core.Bool.{Bool, true, false}
@@ -6,7 +7,6 @@ use mathlib.Core.Path.{◌≡◌, refl, sym, ap, subst, ◌∙◌}
 use lib.Dec.{eqb}
 use lib.ListN.{get_or}
 use Rattle.octets.specs.Read.{is, refused, Read, Reader, got, and_then, choose, branch, give, refuse, byte, be16, be64, ◌>>=◌}
-use Rattle.octets.specs.declared.field.ByteField.{ByteField}
 use Rattle.octets.proofs.Spans.{not-refused}
 use Rattle.ieee802154.specs.Address.{is_present}
 use Rattle.ieee802154.specs.declared.addr.Address.{Address}
@@ -14,7 +14,6 @@ use Rattle.ieee802154.specs.declared.addr.Address.TheVariants.{Short, Extended}
 use Rattle.relay.specs.Mesh.{address, hops_left, mesh_rest, mesh, is_mesh, has_both}
 use Rattle.relay.specs.Headers.{is_either, mesh_field, broadcast_field, relay, has_addresses}
 use Rattle.relay.specs.declared.mesh.Mesh.{Mesh}
-use Rattle.relay.specs.declared.mesh.MeshField.{MeshField}
 use Rattle.relay.specs.declared.headers.Relay.{Relay}
 
 abbrev pub next_of : {A : Type 0} → Read A → ℕ
@@ -46,10 +45,10 @@ pub record Parts (s : List ℕ) (at : ℕ) (r : Relay) (n : ℕ) : Type 0 where
   pub is-broadcast : broadcast_field s place ≡ got r.broadcast n
   pub no_third : is_either (get_or s n 0) ≡ false
 
-abbrev last : MeshField → ByteField → Reader Relay
+abbrev last : Option Mesh → Option ℕ → Reader Relay
 last m x s at = choose (is_either (get_or s at 0)) (refused 3) (got (record { mesh = m; broadcast = x }) at)
 
-last-go : (s : List ℕ) (at n : ℕ) (r : Relay) (m : MeshField) (x : ByteField) (t : Bool) → is_either (get_or s at 0) ≡ t → choose t (refused 3) (got (record { mesh = m; broadcast = x }) at) ≡ got r n → (m ≡ r.mesh) × (x ≡ r.broadcast) × (at ≡ n) × (is_either (get_or s n 0) ≡ false)
+last-go : (s : List ℕ) (at n : ℕ) (r : Relay) (m : Option Mesh) (x : Option ℕ) (t : Bool) → is_either (get_or s at 0) ≡ t → choose t (refused 3) (got (record { mesh = m; broadcast = x }) at) ≡ got r n → (m ≡ r.mesh) × (x ≡ r.broadcast) × (at ≡ n) × (is_either (get_or s n 0) ≡ false)
 last-go s at n r m x true q e = not-refused _ 3 e
 last-go s at n r m x false q e =
     let v : ◌≡◌ {A = Relay} (record { mesh = m; broadcast = x }) r = ap (value_of r) e in
@@ -122,12 +121,12 @@ gives-mesh =
     gives_then byte (λ b. branch (is_mesh b) (mesh_rest b) (refuse 2)) Any (λ m. has_both m ≡ true) (gives-any byte)
     (λ b _. gives-branch (is_mesh b) (mesh_rest b) (refuse 2) (λ m. has_both m ≡ true) (gives-rest b) (λ s at a n e. not-refused _ 2 e))
 
-gives-field : (s : List ℕ) (at : ℕ) (f : MeshField) (n : ℕ) → mesh_field s at ≡ got f n → has_addresses f ≡ true
+gives-field : (s : List ℕ) (at : ℕ) (f : Option Mesh) (n : ℕ) → mesh_field s at ≡ got f n → has_addresses f ≡ true
 unfolding mesh_field
 gives-field s at f n e =
-    gives-branch (is_mesh (get_or s at 0)) _ (give MeshField.None) (λ z. has_addresses z ≡ true)
-    (gives_then mesh (λ m. give (MeshField.Some m)) (λ m. has_both m ≡ true) (λ z. has_addresses z ≡ true) gives-mesh (λ m h. gives-give (MeshField.Some m) (λ z. has_addresses z ≡ true) h))
-    (gives-give MeshField.None (λ z. has_addresses z ≡ true) refl) s at f n e
+    gives-branch (is_mesh (get_or s at 0)) _ (give None) (λ z. has_addresses z ≡ true)
+    (gives_then mesh (λ m. give (Some m)) (λ m. has_both m ≡ true) (λ z. has_addresses z ≡ true) gives-mesh (λ m h. gives-give (Some m) (λ z. has_addresses z ≡ true) h))
+    (gives-give None (λ z. has_addresses z ≡ true) refl) s at f n e
 
 pub present : (s : List ℕ) (at : ℕ) (r : Relay) (n : ℕ) → relay s at ≡ got r n → has_addresses r.mesh ≡ true
 present s at r n e = let c = parts s at r n e in gives-field s at r.mesh c.place c.is-mesh

@@ -1,4 +1,5 @@
 -- The headers as they are written: each length is that of the bytes, and a field goes after a field.
+use Rattle.std.specs.Prelude.{Option, Some, None}
 use Prim.Native.Nat.{ℕ, ◌+◌}
 use native.Mathlib.Nat.{zero-add}
 use native.Mathlib.Omega.{arith}
@@ -8,8 +9,7 @@ use mathlib.Core.Path.{◌≡◌, refl, sym, ◌∙◌}
 use lib.ListN.{length, length-append}
 use Rattle.octets.specs.Read.{choose}
 use Rattle.octets.specs.Write.{put, byte_bytes}
-use Rattle.octets.specs.declared.field.ByteField.{ByteField}
-use Rattle.octets.proofs.Puts.{more}
+use Rattle.octets.proofs.Puts.{more, puts, told, written_over}
 use Rattle.ieee802154.specs.Address.{address_length, address_bytes}
 use Rattle.ieee802154.specs.declared.addr.Address.{Address}
 use Rattle.ieee802154.proofs.WriteSteps.{length-address}
@@ -17,7 +17,6 @@ use Rattle.relay.specs.Mesh.{is_deep, hops_width, hops_bytes, mesh_length, mesh_
 use Rattle.relay.specs.Broadcast.{broadcast_length, broadcast_bytes}
 use Rattle.relay.specs.Headers.{field_length, field_bytes, relay_length, relay_bytes}
 use Rattle.relay.specs.declared.mesh.Mesh.{Mesh}
-use Rattle.relay.specs.declared.mesh.MeshField.{MeshField}
 use Rattle.relay.specs.declared.headers.Relay.{Relay}
 
 -- ---- lengths
@@ -36,13 +35,13 @@ length-mesh m =
     let d = address_bytes m.destination in
     omega (arith, length-append (hops_bytes m.hops) (o ++ d), length-append o d, length-hops m.hops, length-address m.origin, length-address m.destination)
 
-pub length-field : (m : MeshField) → length (field_bytes m) ≡ field_length m
-length-field MeshField.None = refl
-length-field (MeshField.Some m) = length-mesh m
+pub length-field : (m : Option Mesh) → length (field_bytes m) ≡ field_length m
+length-field None = refl
+length-field (Some m) = length-mesh m
 
-length-broadcast : (x : ByteField) → length (broadcast_bytes x) ≡ broadcast_length x
-length-broadcast ByteField.None = refl
-length-broadcast (ByteField.Some x) = refl
+length-broadcast : (x : Option ℕ) → length (broadcast_bytes x) ≡ broadcast_length x
+length-broadcast None = refl
+length-broadcast (Some x) = refl
 
 pub length-relay : (r : Relay) → length (relay_bytes r) ≡ relay_length r
 length-relay r = omega (arith, length-append (field_bytes r.mesh) (broadcast_bytes r.broadcast), length-field r.mesh, length-broadcast r.broadcast)
@@ -55,14 +54,8 @@ pub more-address : (l m n : List ℕ) (at k : ℕ) (a : Address) (bs : List ℕ)
 more-address l m n at k a bs e p q = more l m n at k (address_bytes a) bs (length-address a ∙ sym e) p q
 
 -- at the front
-pub more-mesh : (l m n : List ℕ) (k : ℕ) (f : MeshField) (bs : List ℕ) → k ≡ field_length f → m ≡ put 0 (field_bytes f) l → n ≡ put k bs m → n ≡ put 0 (field_bytes f ++ bs) l
+pub more-mesh : (l m n : List ℕ) (k : ℕ) (f : Option Mesh) (bs : List ℕ) → k ≡ field_length f → m ≡ put 0 (field_bytes f) l → n ≡ put k bs m → n ≡ put 0 (field_bytes f ++ bs) l
 more-mesh l m n k f bs e p q = more l m n 0 k (field_bytes f) bs (length-field f ∙ sym e) p (rw (zero-add k) q)
 
--- one of two runs, by a test whose outcome a call gave
-pub put-told : {b : Bool} (t : Bool) (at : ℕ) (cs bs l n : List ℕ) → b ≡ t → b ≡ true → n ≡ put at cs l → n ≡ put at (choose t cs bs) l
-put-told t at cs bs l n p h e = rw (← p, h) e
-
-pub put-told-not : {b : Bool} (t : Bool) (at : ℕ) (cs bs l n : List ℕ) → b ≡ t → b ≡ false → n ≡ put at bs l → n ≡ put at (choose t cs bs) l
-put-told-not t at cs bs l n p h e = rw (← p, h) e
-
-pub ruleset relay-puts = (more-hops, more-address, more-mesh, put-told, put-told-not)
+-- what the writers of this crate go by
+pub ruleset relay_puts = (puts, told, written_over, length-relay, more-hops, more-address, more-mesh)

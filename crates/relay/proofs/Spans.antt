@@ -1,4 +1,5 @@
 -- How far the headers go: the first byte of each says it, and they end within the bytes. Where the bytes end first they are refused, 1.
+use Rattle.std.specs.Prelude.{Option, Some, None}
 use Prim.Native.Nat.{ℕ, ◌+◌, ◌/◌, ◌%◌, ◌≤◌, ◌<◌}
 use native.Mathlib.Nat.{add-zero, lt_of_not-le}
 use native.Mathlib.Omega.{arith}
@@ -11,16 +12,14 @@ use lib.Dec.{eqb, ltb}
 use lib.ListN.{length, get_or}
 use borrow.Author.Tests.{lt-ltb, eqb-true}
 use Rattle.octets.specs.Read.{Answer, is, refused, Read, Reader, got, and_then, choose, branch, give, refuse, byte, be16, be32, be64, ◌>>=◌}
-use Rattle.octets.specs.declared.field.ByteField.{ByteField}
 use Rattle.octets.proofs.Spans.{Spans, First, not-refused, spans-first, spans-then, spans-both, spans-map, spans-branch, spans-guard, spans-give, spans-byte, spans-be16, spans-be64}
 use Rattle.ieee802154.specs.declared.addr.Address.TheVariants.{Short, Extended}
 use Rattle.relay.specs.Mesh.{address, hops_left, mesh_rest, mesh, is_mesh, address_width, mesh_width}
 use Rattle.relay.specs.Broadcast.{broadcast, is_broadcast, broadcast_length}
 use Rattle.relay.specs.Headers.{is_either, mesh_field, broadcast_field, relay}
 use Rattle.relay.specs.declared.mesh.Mesh.{Mesh}
-use Rattle.relay.specs.declared.mesh.MeshField.{MeshField}
 use Rattle.relay.specs.declared.headers.Relay.{Relay}
-use Rattle.relay.proofs.Steps.{past_end}
+use Rattle.std.proofs.lemmas.List.{get_or_past}
 use Rattle.relay.proofs.Parts.{next_of, value_of, both_of, parts, mesh_of}
 
 -- ---- a mesh header
@@ -63,33 +62,33 @@ byte-is s at x n e = byte-go s at x n (ltb at (length s)) e
 abbrev pub field_width : ℕ → ℕ
 field_width b = choose (is_mesh b) (1 + mesh_width b) 0
 
-field-length : (s : List ℕ) (at n : ℕ) (f : MeshField) → at ≤ length s → mesh_field s at ≡ got f n → (n ≡ at + field_width (get_or s at 0)) × (n ≤ length s)
+field-length : (s : List ℕ) (at n : ℕ) (f : Option Mesh) → at ≤ length s → mesh_field s at ≡ got f n → (n ≡ at + field_width (get_or s at 0)) × (n ≤ length s)
 unfolding mesh_field
 field-length s at n f l e = by (is_mesh (get_or s at 0)) e
   where
-    by : (t : Bool) → choose t (◌>>=◌ mesh (λ m. give (MeshField.Some m)) s at) (got MeshField.None at) ≡ got f n → (n ≡ at + choose t (1 + mesh_width (get_or s at 0)) 0) × (n ≤ length s)
+    by : (t : Bool) → choose t (◌>>=◌ mesh (λ m. give (Some m)) s at) (got None at) ≡ got f n → (n ≡ at + choose t (1 + mesh_width (get_or s at 0)) 0) × (n ≤ length s)
     by true e =
-        let c = both_of mesh (λ m. give (MeshField.Some m)) s at f n e in
+        let c = both_of mesh (λ m. give (Some m)) s at f n e in
         let z : c.place ≡ n = ap next_of c.is-then in
         let w = mesh-length s at c.place c.first l c.is-first in
         let b : mesh_width (get_or s at 0) ≡ mesh_width w.field = ap mesh_width (byte-is s at w.field (at + 1) w.is_read) in
         (sym z ∙ w.length-is ∙ ap (λ k. at + (1 + k)) (sym b), omega (arith, w.within))
     by false e = let z : at ≡ n = ap next_of e in (omega arith, omega arith)
 
-sequence-length : (s : List ℕ) (at n : ℕ) (x : ByteField) → at ≤ length s → broadcast_field s at ≡ got x n → (n ≡ at + broadcast_length x) × (n ≤ length s)
+sequence-length : (s : List ℕ) (at n : ℕ) (x : Option ℕ) → at ≤ length s → broadcast_field s at ≡ got x n → (n ≡ at + broadcast_length x) × (n ≤ length s)
 unfolding broadcast_field
 sequence-length s at n x l e = by (is_broadcast (get_or s at 0)) e
   where
-    by : (t : Bool) → choose t (◌>>=◌ broadcast (λ y. give (ByteField.Some y)) s at) (got ByteField.None at) ≡ got x n → (n ≡ at + broadcast_length x) × (n ≤ length s)
+    by : (t : Bool) → choose t (◌>>=◌ broadcast (λ y. give (Some y)) s at) (got None at) ≡ got x n → (n ≡ at + broadcast_length x) × (n ≤ length s)
     by true e =
-        let c = both_of broadcast (λ y. give (ByteField.Some y)) s at x n e in
+        let c = both_of broadcast (λ y. give (Some y)) s at x n e in
         let z : c.place ≡ n = ap next_of c.is-then in
-        let v : ByteField.Some c.first ≡ x = ap (value_of x) c.is-then in
+        let v : Some c.first ≡ x = ap (value_of x) c.is-then in
         let w = spans-broadcast s at c.first c.place l c.is-first in
         (sym z ∙ w.0 ∙ ap (λ y. at + broadcast_length y) v, omega (arith, w.1))
     by false e =
         let z : at ≡ n = ap next_of e in
-        let v : ByteField.None ≡ x = ap (value_of x) e in
+        let v : None ≡ x = ap (value_of x) e in
         (sym z ∙ sym (add-zero at) ∙ ap (λ y. at + broadcast_length y) v, omega arith)
 
 -- the place after the headers is past the place that they began at by the mesh header's width and the broadcast header's
@@ -170,7 +169,7 @@ only-rest b =
 
 -- a byte that is looked at and is not 0 is there
 there : (s : List ℕ) (at : ℕ) → (0 ≡ get_or s at 0 → ⊥) → at < length s
-there s at h = elim (dec_le (length s) at) [ yes q ↦ absurd (h (past_end s at q)) | no q ↦ lt_of_not-le q ]
+there s at h = elim (dec_le (length s) at) [ yes q ↦ absurd (h (sym (get_or_past s at 0 q))) | no q ↦ lt_of_not-le q ]
 
 byte-there : (s : List ℕ) (at : ℕ) → at < length s → byte s at ≡ got (get_or s at 0) (at + 1)
 unfolding byte
@@ -223,19 +222,19 @@ only-field : Only mesh_field 1
 unfolding mesh_field
 only-field s at j e = by (is_mesh (get_or s at 0)) refl e
   where
-    by : (t : Bool) → is_mesh (get_or s at 0) ≡ t → choose t (◌>>=◌ mesh (λ m. give (MeshField.Some m)) s at) (got MeshField.None at) ≡ refused j → j ≡ 1
-    by true h e = only-mesh s at j h (map-refused mesh MeshField.Some s at j (mesh s at) refl e)
-    by false h e = not-got MeshField.None at j e
+    by : (t : Bool) → is_mesh (get_or s at 0) ≡ t → choose t (◌>>=◌ mesh (λ m. give (Some m)) s at) (got None at) ≡ refused j → j ≡ 1
+    by true h e = only-mesh s at j h (map-refused mesh Some s at j (mesh s at) refl e)
+    by false h e = not-got None at j e
 
 only-sequence : Only broadcast_field 1
 unfolding broadcast_field
 only-sequence s at j e = by (is_broadcast (get_or s at 0)) refl e
   where
-    by : (t : Bool) → is_broadcast (get_or s at 0) ≡ t → choose t (◌>>=◌ broadcast (λ x. give (ByteField.Some x)) s at) (got ByteField.None at) ≡ refused j → j ≡ 1
-    by true h e = only-broadcast s at j h (map-refused broadcast ByteField.Some s at j (broadcast s at) refl e)
-    by false h e = not-got ByteField.None at j e
+    by : (t : Bool) → is_broadcast (get_or s at 0) ≡ t → choose t (◌>>=◌ broadcast (λ x. give (Some x)) s at) (got None at) ≡ refused j → j ≡ 1
+    by true h e = only-broadcast s at j h (map-refused broadcast Some s at j (broadcast s at) refl e)
+    by false h e = not-got None at j e
 
-abbrev relay_of : MeshField → ByteField → Relay
+abbrev relay_of : Option Mesh → Option ℕ → Relay
 relay_of m x = record { mesh = m; broadcast = x }
 
 last-refused : (r : Relay) (n j : ℕ) (t : Bool) → choose t (refused 3) (got r n) ≡ refused j → (j ≡ 1) ⊎ (j ≡ 3)
@@ -246,10 +245,10 @@ pub relay-refused : (s : List ℕ) (at j : ℕ) → relay s at ≡ refused j →
 unfolding relay
 relay-refused s at j e = on-mesh (mesh_field s at) refl e
   where
-    on-broadcast : (m : MeshField) (k : ℕ) (r : Read ByteField) → broadcast_field s k ≡ r → and_then r (λ x. choose (is_either (get_or s x.next 0)) (refused 3) (got (relay_of m x.value) x.next)) ≡ refused j → (j ≡ 1) ⊎ (j ≡ 3)
+    on-broadcast : (m : Option Mesh) (k : ℕ) (r : Read (Option ℕ)) → broadcast_field s k ≡ r → and_then r (λ x. choose (is_either (get_or s x.next 0)) (refused 3) (got (relay_of m x.value) x.next)) ≡ refused j → (j ≡ 1) ⊎ (j ≡ 3)
     on-broadcast m k (is x) q e = last-refused (relay_of m x.value) x.next j (is_either (get_or s x.next 0)) e
     on-broadcast m k (refused i) q e = inl (sym (ap number_in e) ∙ only-sequence s k i q)
 
-    on-mesh : (r : Read MeshField) → mesh_field s at ≡ r → and_then r (λ m. and_then (broadcast_field s m.next) (λ x. choose (is_either (get_or s x.next 0)) (refused 3) (got (relay_of m.value x.value) x.next))) ≡ refused j → (j ≡ 1) ⊎ (j ≡ 3)
+    on-mesh : (r : Read (Option Mesh)) → mesh_field s at ≡ r → and_then r (λ m. and_then (broadcast_field s m.next) (λ x. choose (is_either (get_or s x.next 0)) (refused 3) (got (relay_of m.value x.value) x.next))) ≡ refused j → (j ≡ 1) ⊎ (j ≡ 3)
     on-mesh (is m) q e = on-broadcast m.value m.next (broadcast_field s m.next) refl e
     on-mesh (refused i) q e = inl (sym (ap number_in e) ∙ only-field s at i q)

@@ -1,6 +1,7 @@
 -- The headers come back as they were written, wherever their bytes stand, exactly where no further header of the two follows; so do those
 -- that `emit` leaves in any room.
-use Prim.Native.Nat.{ℕ, zero, suc, ◌+◌, ◌*◌, ◌/◌, ◌%◌, ◌≤◌, ◌<◌}
+use Rattle.std.specs.Prelude.{Option, Some, None}
+use Prim.Native.Nat.{ℕ, ◌+◌, ◌*◌, ◌/◌, ◌%◌, ◌≤◌, ◌<◌}
 use native.Mathlib.Nat.{add-zero, zero-add}
 use native.Mathlib.Omega.{arith}
 use mathlib.Core.List.{List, [], ◌∷◌, ◌++◌, append_assoc, append-nil}
@@ -8,10 +9,10 @@ use mathlib.Core.Bool.{Bool, true, false, false≢true}
 use mathlib.Core.Path.{◌≡◌, refl, sym, ap, ◌∙◌}
 use lib.ListN.{length, get_or, drop, length-append}
 use lib.Dec.{eqb}
+use Rattle.std.proofs.lemmas.List.{get_or-drop}
 use borrow.Author.Tests.{leb-false, le-leb, eqb-true, eq-eqb, ne_eqb}
 use Rattle.octets.specs.Read.{Reader, Read, refused, got, choose, branch, give, byte, be16, be64, ◌>>=◌}
 use Rattle.octets.specs.Write.{byte_bytes, be16_bytes, be64_bytes}
-use Rattle.octets.specs.declared.field.ByteField.{ByteField}
 use Rattle.octets.proofs.RoundTrip.{Reads, reads_then, reads-map, reads_both, reads-give, reads-if-not, reads_first, reads_byte, reads-be16, reads-be64}
 use Rattle.octets.proofs.Steps.{and-true}
 use Rattle.ieee802154.specs.Address.{address_bytes, is_present}
@@ -21,7 +22,6 @@ use Rattle.relay.specs.Mesh.{address, hops_left, mesh_rest, mesh, is_mesh, is_de
 use Rattle.relay.specs.Broadcast.{broadcast, is_broadcast, broadcast_bytes}
 use Rattle.relay.specs.Headers.{is_either, mesh_field, broadcast_field, relay, has_addresses, field_bytes, relay_length, relay_bytes, relay_over}
 use Rattle.relay.specs.declared.mesh.Mesh.{Mesh}
-use Rattle.relay.specs.declared.mesh.MeshField.{MeshField}
 use Rattle.relay.specs.declared.headers.Relay.{Relay}
 use Rattle.relay.proofs.Puts.{length-relay}
 use Rattle.relay.proofs.Parts.{mesh_of, followed}
@@ -114,24 +114,24 @@ mesh-first : (m : Mesh) (q : List ℕ) → is_mesh (get_or (mesh_bytes m ++ q) 0
 unfolding byte_bytes
 mesh-first m q = eq-eqb (mesh_first m / 64) 0b10 (fields-of m (hops_bits m.hops) (bits-lt m.hops)).lead
 
-field-trip : (f : MeshField) (q : List ℕ) → has_addresses f ≡ true → (f ≡ MeshField.None → is_mesh (get_or q 0 0) ≡ false) → Before mesh_field (field_bytes f) f q
+field-trip : (f : Option Mesh) (q : List ℕ) → has_addresses f ≡ true → (f ≡ None → is_mesh (get_or q 0 0) ≡ false) → Before mesh_field (field_bytes f) f q
 unfolding mesh_field
-field-trip MeshField.None q e h p n i = rw (peek-at p q n i, h refl) (ap (got MeshField.None) (sym (add-zero n)))
-field-trip (MeshField.Some m) q e h p n i = rw (peek-at p (mesh_bytes m ++ q) n i, mesh-first m q) (reads-map mesh MeshField.Some (mesh_bytes m) m (mesh-trip m e) p q n i)
+field-trip None q e h p n i = rw (peek-at p q n i, h refl) (ap (got None) (sym (add-zero n)))
+field-trip (Some m) q e h p n i = rw (peek-at p (mesh_bytes m ++ q) n i, mesh-first m q) (reads-map mesh Some (mesh_bytes m) m (mesh-trip m e) p q n i)
 
-sequence-trip : (x : ByteField) (q : List ℕ) → (x ≡ ByteField.None → is_broadcast (get_or q 0 0) ≡ false) → Before broadcast_field (broadcast_bytes x) x q
+sequence-trip : (x : Option ℕ) (q : List ℕ) → (x ≡ None → is_broadcast (get_or q 0 0) ≡ false) → Before broadcast_field (broadcast_bytes x) x q
 unfolding broadcast_field
-sequence-trip ByteField.None q h p n i = rw (peek-at p q n i, h refl) (ap (got ByteField.None) (sym (add-zero n)))
-sequence-trip (ByteField.Some x) q h p n i = rw (peek-at p (0b01010000 ∷ x ∷ q) n i) (reads-map broadcast ByteField.Some (0b01010000 ∷ x ∷ []) x (broadcast-trip x) p q n i)
+sequence-trip None q h p n i = rw (peek-at p q n i, h refl) (ap (got None) (sym (add-zero n)))
+sequence-trip (Some x) q h p n i = rw (peek-at p (0b01010000 ∷ x ∷ q) n i) (reads-map broadcast Some (0b01010000 ∷ x ∷ []) x (broadcast-trip x) p q n i)
 
 -- the reader comes as far as what follows: it gives the headers, or is refused
-relay-at : (r : Relay) (q : List ℕ) (t : Bool) → has_addresses r.mesh ≡ true → (r.mesh ≡ MeshField.None → is_mesh (get_or (broadcast_bytes r.broadcast ++ q) 0 0) ≡ false) → (r.broadcast ≡ ByteField.None → is_broadcast (get_or q 0 0) ≡ false) → is_either (get_or q 0 0) ≡ t → (p : List ℕ) (n : ℕ) → length p ≡ n → relay (p ++ (relay_bytes r ++ q)) n ≡ choose t (refused 3) (got r (n + length (relay_bytes r)))
+relay-at : (r : Relay) (q : List ℕ) (t : Bool) → has_addresses r.mesh ≡ true → (r.mesh ≡ None → is_mesh (get_or (broadcast_bytes r.broadcast ++ q) 0 0) ≡ false) → (r.broadcast ≡ None → is_broadcast (get_or q 0 0) ≡ false) → is_either (get_or q 0 0) ≡ t → (p : List ℕ) (n : ℕ) → length p ≡ n → relay (p ++ (relay_bytes r ++ q)) n ≡ choose t (refused 3) (got r (n + length (relay_bytes r)))
 unfolding relay
 relay-at r q t e f g h p n i =
     let F = field_bytes r.mesh in
     let B = broadcast_bytes r.broadcast in
     let ended : ℕ → Read Relay = λ k. choose t (refused 3) (got r k) in
-    let last : MeshField → ByteField → Reader Relay = λ m x s at. choose (is_either (get_or s at 0)) (refused 3) (got (record { mesh = m; broadcast = x }) at) in
+    let last : Option Mesh → Option ℕ → Reader Relay = λ m x s at. choose (is_either (get_or s at 0)) (refused 3) (got (record { mesh = m; broadcast = x }) at) in
     let d : n + length F + length B ≡ n + length (F ++ B) = omega (arith, length-append F B) in
     rw (append_assoc F B q)
     (then_at mesh_field (λ m. ◌>>=◌ broadcast_field (last m)) F r.mesh (B ++ q) (λ k. ended (k + length B)) (field-trip r.mesh (B ++ q) e f)
@@ -152,9 +152,9 @@ either-broadcast b e = by (is_mesh b) e
     by true e = absurd (false≢true (sym e))
     by false e = e
 
-no-mesh-behind : (x : ByteField) (q : List ℕ) → is_mesh (get_or q 0 0) ≡ false → is_mesh (get_or (broadcast_bytes x ++ q) 0 0) ≡ false
-no-mesh-behind ByteField.None q e = e
-no-mesh-behind (ByteField.Some x) q e = refl
+no-mesh-behind : (x : Option ℕ) (q : List ℕ) → is_mesh (get_or q 0 0) ≡ false → is_mesh (get_or (broadcast_bytes x ++ q) 0 0) ≡ false
+no-mesh-behind None q e = e
+no-mesh-behind (Some x) q e = refl
 
 -- the round trip, where neither header follows
 pub relay-trip : (r : Relay) (q : List ℕ) → has_addresses r.mesh ≡ true → is_either (get_or q 0 0) ≡ false → Before relay (relay_bytes r) r q
@@ -163,40 +163,21 @@ relay-trip r q e f p n i = relay-at r q false e (λ _. no-mesh-behind r.broadcas
 -- a second mesh header is refused, 3
 pub second-mesh : (m : Mesh) (q : List ℕ) → has_both m ≡ true → is_mesh (get_or q 0 0) ≡ true → (p : List ℕ) (n : ℕ) → length p ≡ n → relay (p ++ (mesh_bytes m ++ q)) n ≡ refused 3
 second-mesh m q e f p n i =
-    let r : Relay = record { mesh = MeshField.Some m; broadcast = ByteField.None } in
+    let r : Relay = record { mesh = Some m; broadcast = None } in
     let z : get_or q 0 0 / 64 ≡ 0b10 = eqb-true (get_or q 0 0 / 64) 0b10 f in
     let g : is_broadcast (get_or q 0 0) ≡ false = ne_eqb (get_or q 0 0) 0b01010000 (λ w. omega arith) in
     let h : is_either (get_or q 0 0) ≡ true = rw f refl in
-    rw (← append-nil (mesh_bytes m)) (relay-at r q true e (λ w. no-some m w) (λ _. g) h p n i)
-  where
-    no-some : {X : Type 0} (m : Mesh) → ◌≡◌ {A = MeshField} (MeshField.Some m) MeshField.None → X
-    no-some m w = absurd (omega (arith, ap there w))
-      where
-        there : MeshField → ℕ
-        there MeshField.None = 0
-        there (MeshField.Some m) = 1
+    rw (← append-nil (mesh_bytes m)) (relay-at r q true e (λ w. cc) (λ _. g) h p n i)
 
 -- either header behind a broadcast one is refused, 3
-pub after-broadcast : (f : MeshField) (x : ℕ) (q : List ℕ) → has_addresses f ≡ true → is_either (get_or q 0 0) ≡ true → (p : List ℕ) (n : ℕ) → length p ≡ n → relay (p ++ ((field_bytes f ++ (0b01010000 ∷ x ∷ [])) ++ q)) n ≡ refused 3
-after-broadcast f x q e g p n i = relay-at (record { mesh = f; broadcast = ByteField.Some x }) q true e (λ _. refl) (λ w. no-some x w) g p n i
-  where
-    no-some : {X : Type 0} (x : ℕ) → ◌≡◌ {A = ByteField} (ByteField.Some x) ByteField.None → X
-    no-some x w = absurd (omega (arith, ap there w))
-      where
-        there : ByteField → ℕ
-        there ByteField.None = 0
-        there (ByteField.Some x) = 1
+pub after-broadcast : (f : Option Mesh) (x : ℕ) (q : List ℕ) → has_addresses f ≡ true → is_either (get_or q 0 0) ≡ true → (p : List ℕ) (n : ℕ) → length p ≡ n → relay (p ++ ((field_bytes f ++ (0b01010000 ∷ x ∷ [])) ++ q)) n ≡ refused 3
+after-broadcast f x q e g p n i = relay-at (record { mesh = f; broadcast = Some x }) q true e (λ _. refl) (λ w. cc) g p n i
 
 -- ---- in the room that `emit` leaves, whatever else the room holds
-get_or-drop : (n : ℕ) (l : List ℕ) → get_or (drop n l) 0 0 ≡ get_or l n 0
-get_or-drop zero l = refl
-get_or-drop (suc n) [] = refl
-get_or-drop (suc n) (a ∷ l) = get_or-drop n l
-
 pub emit-then-read : (r : Relay) (room : List ℕ) → has_addresses r.mesh ≡ true → relay_length r ≤ length room → is_either (get_or room (relay_length r) 0) ≡ false → relay (relay_over r room) 0 ≡ got r (relay_length r)
 emit-then-read r room e l f =
     rw (e, le-leb (relay_length r) (length room) l)
-    (relay-trip r (drop (relay_length r) room) e (ap is_either (get_or-drop (relay_length r) room) ∙ f) [] 0 refl ∙ ap (got r) (zero-add (length (relay_bytes r)) ∙ length-relay r))
+    (relay-trip r (drop (relay_length r) room) e (ap is_either (get_or-drop (relay_length r) room 0 0 ∙ ap (λ k. get_or room k 0) (add-zero (relay_length r))) ∙ f) [] 0 refl ∙ ap (got r) (zero-add (length (relay_bytes r)) ∙ length-relay r))
 
 -- and only there: the condition on what follows is exact
 pub only-before : (r : Relay) (p q : List ℕ) (n : ℕ) → length p ≡ n → relay (p ++ (relay_bytes r ++ q)) n ≡ got r (n + length (relay_bytes r)) → is_either (get_or q 0 0) ≡ false
@@ -205,6 +186,6 @@ only-before r p q n i e =
     ap is_either (sym (peek-at (p ++ relay_bytes r) q (n + length (relay_bytes r)) k)) ∙ rw (append_assoc p (relay_bytes r) q) (followed (p ++ (relay_bytes r ++ q)) n r (n + length (relay_bytes r)) e)
 
 -- where neither header stands, nothing is read and nothing passed over
-pub relay-none : (s : List ℕ) (at : ℕ) → is_either (get_or s at 0) ≡ false → relay s at ≡ got (record { mesh = MeshField.None; broadcast = ByteField.None }) at
+pub relay-none : (s : List ℕ) (at : ℕ) → is_either (get_or s at 0) ≡ false → relay s at ≡ got (record { mesh = None; broadcast = None }) at
 unfolding relay mesh_field broadcast_field
 relay-none s at e = rw (either-mesh (get_or s at 0) e, either-broadcast (get_or s at 0) e) (rw e refl)

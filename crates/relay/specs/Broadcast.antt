@@ -1,7 +1,6 @@
 -- Broadcast headers (RFC 4944, 11.1).
-use Rattle.std.specs.Prelude.{ℕ, List, [], ◌∷◌, Bool, eqb}
+use Rattle.std.specs.Prelude.{ℕ, List, [], ◌∷◌, Bool, eqb, Option, Some, None}
 use Rattle.octets.specs.Read.{Reader, branch, refuse, byte, ◌>>=◌}
-use Rattle.octets.specs.declared.field.ByteField.{ByteField}
 
 --                      1
 --  0 1 2 3 4 5 6 7 8 9 0 1 2 3 4 5
@@ -17,10 +16,10 @@ broadcast = do
   branch (is_broadcast b) byte (refuse 2)
 
 -- the length and the bytes of a header that may be there
-abbrev pub broadcast_length : ByteField → ℕ
-broadcast_length ByteField.None = 0
-broadcast_length (ByteField.Some x) = 2
+abbrev pub broadcast_length : Option ℕ → ℕ
+broadcast_length None = 0
+broadcast_length (Some x) = 2
 
-abbrev pub broadcast_bytes : ByteField → List ℕ
-broadcast_bytes ByteField.None = []
-broadcast_bytes (ByteField.Some x) = 0b01010000 ∷ x ∷ []
+abbrev pub broadcast_bytes : Option ℕ → List ℕ
+broadcast_bytes None = []
+broadcast_bytes (Some x) = 0b01010000 ∷ x ∷ []

@@ -1,28 +1,11 @@
 -- Mesh and broadcast headers in a row, in front of ours (RFC 4944, 5.2, 11.1; their order is that of 5.1: mesh, broadcast, then fragments).
-use Rattle.std.specs.Prelude.{ℕ, ◌+◌, List, [], ◌++◌, Bool, true, get_or}
-use Rattle.octets.specs.Read.{Answer, Read, Reader, got, refused, choose, branch, give, refuse, ◌>>=◌}
-use Rattle.octets.specs.Refusal.{number_of}
+use Rattle.relay.specs.declared.mesh.Mesh.{Mesh}
+use Rattle.std.specs.Prelude.{ℕ, ◌+◌, List, [], ◌++◌, Bool, true, get_or, Option, Some, None}
+use Rattle.octets.specs.Read.{Answer, Reader, got, refused, choose, branch, give, refuse, ◌>>=◌}
 use Rattle.octets.specs.Write.{wrote, over}
-use Rattle.octets.specs.declared.field.ByteField.{ByteField}
 use Rattle.relay.specs.Mesh.{mesh, is_mesh, mesh_length, mesh_bytes, has_both}
 use Rattle.relay.specs.Broadcast.{broadcast, is_broadcast, broadcast_length, broadcast_bytes}
-use Rattle.relay.specs.declared.mesh.MeshField.{MeshField}
-use Rattle.relay.specs.declared.headers.MeshFieldRead.{MeshFieldRead}
-use Rattle.relay.specs.declared.headers.SequenceRead.{SequenceRead}
 use Rattle.relay.specs.declared.headers.Relay.{Relay}
-use Rattle.relay.specs.declared.headers.RelayRead.{RelayRead}
-
-abbrev pub of_mesh_field : MeshFieldRead → Read MeshField
-of_mesh_field (MeshFieldRead.Field m c) = got m c.at
-of_mesh_field (MeshFieldRead.Refused e) = refused (number_of e)
-
-abbrev pub of_sequence : SequenceRead → Read ByteField
-of_sequence (SequenceRead.Field x c) = got x c.at
-of_sequence (SequenceRead.Refused e) = refused (number_of e)
-
-abbrev pub of_relay : RelayRead → Read Relay
-of_relay (RelayRead.Headers r c) = got r c.at
-of_relay (RelayRead.Refused e) = refused (number_of e)
 
 -- the byte at the place, which is not passed over; 0, which begins neither header, where the bytes end
 abbrev pub peek : Reader ℕ
@@ -33,23 +16,23 @@ abbrev pub is_either : ℕ → Bool
 is_either b = choose (is_mesh b) true (is_broadcast b)
 
 -- each header, where it is there
-unfoldable pub mesh_field : Reader MeshField
+unfoldable pub mesh_field : Reader (Option Mesh)
 mesh_field = do
   b ← peek
   branch (is_mesh b)
       (do
         m ← mesh
-        give (MeshField.Some m))
-      (give MeshField.None)
+        give (Some m))
+      (give None)
 
-unfoldable pub broadcast_field : Reader ByteField
+unfoldable pub broadcast_field : Reader (Option ℕ)
 broadcast_field = do
   b ← peek
   branch (is_broadcast b)
       (do
         x ← broadcast
-        give (ByteField.Some x))
-      (give ByteField.None)
+        give (Some x))
+      (give None)
 
 -- a mesh header, then a broadcast header, each there or not; 3 where one of the two still follows, that is a second mesh header, or
 -- either after a broadcast header
@@ -61,17 +44,17 @@ relay = do
   branch (is_either b) (refuse 3) (give (record { mesh = m; broadcast = x }))
 
 -- ---- what is written
-abbrev pub has_addresses : MeshField → Bool
-has_addresses MeshField.None = true
-has_addresses (MeshField.Some m) = has_both m
+abbrev pub has_addresses : Option Mesh → Bool
+has_addresses None = true
+has_addresses (Some m) = has_both m
 
-abbrev pub field_length : MeshField → ℕ
-field_length MeshField.None = 0
-field_length (MeshField.Some m) = mesh_length m
+abbrev pub field_length : Option Mesh → ℕ
+field_length None = 0
+field_length (Some m) = mesh_length m
 
-abbrev pub field_bytes : MeshField → List ℕ
-field_bytes MeshField.None = []
-field_bytes (MeshField.Some m) = mesh_bytes m
+abbrev pub field_bytes : Option Mesh → List ℕ
+field_bytes None = []
+field_bytes (Some m) = mesh_bytes m
 
 abbrev pub relay_length : Relay → ℕ
 relay_length r = field_length r.mesh + broadcast_length r.broadcast

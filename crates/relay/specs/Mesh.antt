@@ -1,22 +1,11 @@
 -- Mesh headers (RFC 4944, 5.2).
 use Rattle.std.specs.Prelude.{ℕ, ◌+◌, ◌*◌, ◌/◌, ◌%◌, List, [], ◌++◌, Bool, ◌&&◌, eqb, leb}
-use Rattle.octets.specs.Read.{Read, Reader, got, refused, choose, branch, give, refuse, byte, be16, be64, ◌>>=◌}
-use Rattle.octets.specs.Refusal.{number_of}
+use Rattle.octets.specs.Read.{Reader, choose, branch, give, refuse, byte, be16, be64, ◌>>=◌}
 use Rattle.octets.specs.Write.{byte_bytes}
 use Rattle.ieee802154.specs.Address.{address_length, address_bytes, is_present}
 use Rattle.ieee802154.specs.declared.addr.Address.{Address}
 use Rattle.ieee802154.specs.declared.addr.Address.TheVariants.{Absent, Short, Extended}
 use Rattle.relay.specs.declared.mesh.Mesh.{Mesh}
-use Rattle.relay.specs.declared.mesh.AddressRead.{AddressRead}
-use Rattle.relay.specs.declared.mesh.MeshRead.{MeshRead}
-
-abbrev pub of_address_read : AddressRead → Read Address
-of_address_read (AddressRead.Field a c) = got a c.at
-of_address_read (AddressRead.Refused e) = refused (number_of e)
-
-abbrev pub of_mesh : MeshRead → Read Mesh
-of_mesh (MeshRead.Header m c) = got m c.at
-of_mesh (MeshRead.Refused e) = refused (number_of e)
 
 --                      1                   2                   3
 --  0 1 2 3 4 5 6 7 8 9 0 1 2 3 4 5 6 7 8 9 0 1 2 3 4 5 6 7 8 9 0 1

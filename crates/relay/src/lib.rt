@@ -9,12 +9,12 @@
 // bytes that `relay_bytes` lists, or refuses and leaves the room as it was. proofs/ shows that what is written reads
 // back exactly where no further header of the two follows (Trips), how far the headers go and why they are refused
 // (Spans), and that no address that was read is absent (Parts). No function asks anything of its caller, and each
-// contract fixes the answer and the lent bytes (Unique).
+// contract fixes the answer and the lent bytes.
 #![tactic(auto)]
 
 pub mod broadcast;
 pub mod headers;
 pub mod mesh;
 
-pub use headers::{Relay, RelayRead};
-pub use mesh::{Mesh, MeshField};
+pub use headers::Relay;
+pub use mesh::Mesh;

@@ -1,12 +1,8 @@
 pub mod NextLaws
-pub mod NhcSteps
 pub mod NhcPuts
 pub mod NhcTrips
 pub mod NhcSpans
-pub mod Unique
-pub mod HeaderSteps
 pub mod Examples
-pub mod FragSteps
 pub mod FragPuts
 pub mod FragTrips
 pub mod FragSpans

@@ -1,29 +1,18 @@
--- The next header field: its step for `search`, its width, and its round trip.
+-- The next header field: its width, and its round trip.
 use Prim.Native.Nat.{ℕ, ◌+◌, ◌<◌}
 use native.Mathlib.Omega.{arith}
 use mathlib.Core.List.{List, ◌++◌}
 use mathlib.Core.Path.{◌≡◌, refl, sym, ◌∙◌}
 use lib.Dec.{eqb}
 use lib.ListN.{length}
-use Rattle.octets.specs.Read.{Answer, refused, Placed, Read, and_then, byte, give}
-use Rattle.octets.specs.Refusal.{number_of}
+use Rattle.octets.specs.Read.{byte, give}
 use Rattle.octets.specs.Write.{put, byte_bytes}
-use Rattle.octets.specs.declared.refusal.Refusal.{Refusal}
-use Rattle.octets.specs.declared.cursor.Cursor.{Cursor}
-use Rattle.octets.proofs.Steps.{on-is, on-refused}
 use Rattle.octets.proofs.Puts.{more}
 use Rattle.octets.proofs.RoundTrip.{Reads, reads-map, reads-give, reads_byte}
 use Rattle.octets.proofs.Spans.{Spans, spans-branch, spans-map, spans-give, spans-byte}
-use Rattle.sixlowpan.specs.Next.{of_next, next_header, next_bit, next_width, next_bytes}
+use Rattle.sixlowpan.specs.Next.{next_header, next_bit, next_width, next_bytes}
 use Rattle.sixlowpan.specs.declared.protocol.NextHeader.{NextHeader}
 use Rattle.sixlowpan.specs.declared.protocol.NextHeader.TheVariants.{Compressed, Uncompressed}
-use Rattle.sixlowpan.specs.declared.next.NextRead.{NextRead}
-
-pub on-next : {B : Type 0} {r : Answer B} {y : NextRead} {x : NextHeader} {c : Cursor} (m : Read NextHeader) (k : Placed NextHeader → Answer B) → of_next y ≡ m → y ≡ NextRead.Field x c → r ≡ k (record { value = x; next = c.at }) → r ≡ and_then m k
-on-next {x = x} {c = c} m k p q e = on-is of_next (NextRead.Field x c) (record { value = x; next = c.at }) m k refl p q e
-
-pub no-next : {B : Type 0} {y : NextRead} {e : Refusal} (m : Read NextHeader) (k : Placed NextHeader → Answer B) → of_next y ≡ m → y ≡ NextRead.Refused e → refused (number_of e) ≡ and_then m k
-no-next {e = e} m k p q = on-refused of_next (NextRead.Refused e) (number_of e) m k refl p q
 
 pub length-next : (x : NextHeader) → length (next_bytes x) ≡ next_width (next_bit x)
 unfolding byte_bytes

@@ -1,4 +1,5 @@
 -- Compressed UDP and extension headers as they are written: each length is that of the bytes, and a field goes after a field.
+use Rattle.std.specs.Prelude.{Option, Some, None}
 use Prim.Native.Nat.{ℕ, ◌+◌, ◌*◌, ◌%◌}
 use native.Mathlib.Omega.{arith}
 use mathlib.Core.List.{List, ◌++◌}
@@ -8,8 +9,7 @@ use lib.Dec.{eqb}
 use lib.ListN.{length, length-append}
 use Rattle.octets.specs.Read.{choose}
 use Rattle.octets.specs.Write.{put, byte_bytes, be16_bytes}
-use Rattle.octets.specs.declared.field.WordField.{WordField}
-use Rattle.octets.proofs.Puts.{more, put-eq, put-ne}
+use Rattle.octets.proofs.Puts.{more, put-eq, put-ne, put-nil, puts, told, written_over}
 use Rattle.sixlowpan.specs.Next.{next_bytes}
 use Rattle.sixlowpan.specs.NhcExt.{ext_length, ext_bytes}
 use Rattle.sixlowpan.specs.NhcUdp.{elided_bit, port_width, ports_width, checksum_width, port_bytes, ports_bytes, checksum_bytes, udp_form, udp_length, udp_nhc_bytes}
@@ -35,10 +35,10 @@ length-ports p src dst = by (eqb p 0b11)
     by true = refl
     by false = rw (length-append (port_bytes (eqb p 0b10) src) _, length-port (eqb p 0b10) src, length-port (eqb p 0b01) dst) refl
 
-length-checksum : (x : WordField) → length (checksum_bytes x) ≡ checksum_width (elided_bit x)
+length-checksum : (x : Option ℕ) → length (checksum_bytes x) ≡ checksum_width (elided_bit x)
 unfolding be16_bytes
-length-checksum (WordField.Some x) = refl
-length-checksum WordField.None = refl
+length-checksum (Some x) = refl
+length-checksum None = refl
 
 pub length-udp : (h : UdpNhcRepr) → length (udp_nhc_bytes h) ≡ udp_length h
 unfolding byte_bytes
@@ -52,4 +52,8 @@ more-port l m n at k x short bs h p q = more l m n at k (port_bytes short x) bs 
 pub more-ports : (l m n : List ℕ) (at k f p src dst : ℕ) (bs : List ℕ) → f ≡ p → k ≡ ports_width f → m ≡ put at (ports_bytes f src dst) l → n ≡ put (at + k) bs m → n ≡ put at (ports_bytes p src dst ++ bs) l
 more-ports l m n at k f p src dst bs e h q r = rw (← e) (more l m n at k (ports_bytes f src dst) bs (length-ports f src dst ∙ sym h) q r)
 
-pub ruleset nhc-puts = (more-next, more-port, more-ports, put-eq, put-ne)
+-- what an `emit` of this crate goes by
+pub ruleset header_puts = (puts, told, written_over, length-ext, length-udp, more-next, more-port, more-ports)
+
+-- and a field of a form or another
+pub ruleset field_puts = (puts, put-nil, put-eq, put-ne, more-port)

@@ -1,4 +1,5 @@
 -- How far a compressed UDP or extension header goes: its first byte says it, and it ends within the bytes.
+use Rattle.std.specs.Prelude.{Some, None}
 use Prim.Native.Nat.{ℕ, ◌+◌, ◌/◌, ◌%◌, ◌≤◌}
 use mathlib.Core.List.{List}
 use mathlib.Core.Bool.{Bool}
@@ -6,7 +7,6 @@ use mathlib.Core.Path.{◌≡◌}
 use lib.Dec.{eqb}
 use lib.ListN.{length}
 use Rattle.octets.specs.Read.{got, branch, byte, be16, refuse, give}
-use Rattle.octets.specs.declared.field.WordField.{WordField}
 use Rattle.octets.proofs.Spans.{Spans, First, spans-first, spans-map, spans-both, spans-guard, spans-branch, spans-give, spans-byte, spans-be16}
 use Rattle.sixlowpan.specs.Next.{next_header, next_width}
 use Rattle.sixlowpan.specs.NhcExt.{id_of, ext_rest, ext, ext_width}
@@ -42,7 +42,7 @@ spans-ports p =
 
 spans-checksum : (elided : ℕ) → Spans (checksum elided) (checksum_width elided)
 unfolding checksum
-spans-checksum elided = spans-branch (eqb elided 0) _ (give WordField.None) 2 0 (spans-map be16 WordField.Some 2 spans-be16) (spans-give WordField.None)
+spans-checksum elided = spans-branch (eqb elided 0) _ (give None) 2 0 (spans-map be16 Some 2 spans-be16) (spans-give None)
 
 spans-udp-rest : (b : ℕ) → Spans (udp_rest b) (udp_width b)
 unfolding udp_rest

@@ -1,5 +1,6 @@
 -- Compressed UDP and extension headers come back as they were written, wherever their bytes stand and whatever follows; so does the
 -- header that `emit` leaves in any room.
+use Rattle.std.specs.Prelude.{Option, Some, None}
 use Prim.Native.Nat.{ℕ, ◌+◌, ◌*◌, ◌/◌, ◌%◌, ◌≤◌, ◌<◌}
 use native.Mathlib.Omega.{arith}
 use mathlib.Core.List.{List, ◌++◌}
@@ -9,7 +10,6 @@ use lib.ListN.{length}
 use borrow.Author.Tests.{eqb-true}
 use Rattle.octets.specs.Read.{got, choose, byte, be16, give, ◌>>=◌}
 use Rattle.octets.specs.Write.{over, byte_bytes, be16_bytes}
-use Rattle.octets.specs.declared.field.WordField.{WordField}
 use Rattle.octets.proofs.RoundTrip.{Reads, reads_first, reads_both, reads-map, reads-give, emit-then-read, reads_byte, reads-be16}
 use Rattle.octets.proofs.Steps.{and-true}
 use Rattle.sixlowpan.specs.Next.{next_header, next_bit, next_bytes}
@@ -105,14 +105,14 @@ form_small src dst = by (both_port4 src dst) (port8 src) (port8 dst)
     by false false true = omega arith
     by false false false = omega arith
 
-checksum-trip : (x : WordField) → Reads (checksum (elided_bit x)) (checksum_bytes x) x
+checksum-trip : (x : Option ℕ) → Reads (checksum (elided_bit x)) (checksum_bytes x) x
 unfolding checksum
-checksum-trip (WordField.Some x) = reads-map be16 WordField.Some (be16_bytes x) x (reads-be16 x)
-checksum-trip WordField.None = reads-give WordField.None
+checksum-trip (Some x) = reads-map be16 Some (be16_bytes x) x (reads-be16 x)
+checksum-trip None = reads-give None
 
-bit-small : (x : WordField) → elided_bit x < 2
-bit-small (WordField.Some x) = omega arith
-bit-small WordField.None = omega arith
+bit-small : (x : Option ℕ) → elided_bit x < 2
+bit-small (Some x) = omega arith
+bit-small None = omega arith
 
 pub udp-trip : (h : UdpNhcRepr) → Reads udp (udp_nhc_bytes h) h
 unfolding udp udp_rest

@@ -1,14 +1,8 @@
 -- Which header a payload starts with (RFC 4944, 5.1 and 5.3; RFC 6282, 2).
 use Rattle.std.specs.Prelude.{ℕ, ◌/◌, List, eqb}
 use Rattle.octets.specs.Read.{Answer, is, refused, and_then, choose, byte}
-use Rattle.octets.specs.Refusal.{number_of}
 use Rattle.sixlowpan.specs.declared.dispatch.SixlowpanPacket.{SixlowpanPacket}
 use Rattle.sixlowpan.specs.declared.dispatch.SixlowpanPacket.TheVariants.{FragmentHeader, IphcHeader}
-use Rattle.sixlowpan.specs.declared.dispatch.DispatchAnswer.{DispatchAnswer}
-
-abbrev pub of_dispatch : DispatchAnswer → Answer SixlowpanPacket
-of_dispatch (DispatchAnswer.Is p) = is p
-of_dispatch (DispatchAnswer.Refused e) = refused (number_of e)
 
 -- the leading bits: 11000 a first part, 11100 a later part, 011 a compressed header; anything else is refused, 2
 unfoldable pub dispatch_of : ℕ → Answer SixlowpanPacket

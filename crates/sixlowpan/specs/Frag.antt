@@ -1,16 +1,10 @@
 -- Fragment headers (RFC 4944, 5.3).
 use Rattle.std.specs.Prelude.{ℕ, ◌+◌, ◌*◌, ◌/◌, ◌%◌, List, ◌++◌, Bool, true, false, eqb}
-use Rattle.octets.specs.Read.{Read, Reader, got, refused, choose, branch, give, refuse, byte, be16, ◌>>=◌}
-use Rattle.octets.specs.Refusal.{number_of}
+use Rattle.octets.specs.Read.{Reader, choose, branch, give, refuse, byte, be16, ◌>>=◌}
 use Rattle.octets.specs.Write.{byte_bytes, be16_bytes}
 use Rattle.sixlowpan.specs.declared.frag.Units.{Units}
 use Rattle.sixlowpan.specs.declared.frag.Repr.{Repr}
 use Rattle.sixlowpan.specs.declared.frag.Repr.TheVariants.{FirstFragment, Fragment}
-use Rattle.sixlowpan.specs.declared.frag.Parsed.{Parsed}
-
-abbrev pub of_parsed : Parsed → Read Repr
-of_parsed (Parsed.Header h c) = got h c.at
-of_parsed (Parsed.Refused e) = refused (number_of e)
 
 -- after the word and the tag: 11000, a first part; 11100, an offset in units of 8 octets follows; anything else is no fragment header
 unfoldable pub frag_rest : ℕ → ℕ → Reader Repr

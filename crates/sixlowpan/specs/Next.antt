@@ -1,15 +1,9 @@
 -- The next header field of a compressed header (RFC 6282, 3.1.1 and 4.2).
 use Rattle.std.specs.Prelude.{ℕ, List, [], eqb}
-use Rattle.octets.specs.Read.{Read, Reader, got, refused, choose, branch, give, byte, ◌>>=◌}
-use Rattle.octets.specs.Refusal.{number_of}
+use Rattle.octets.specs.Read.{Reader, choose, branch, give, byte, ◌>>=◌}
 use Rattle.octets.specs.Write.{byte_bytes}
 use Rattle.sixlowpan.specs.declared.protocol.NextHeader.{NextHeader}
 use Rattle.sixlowpan.specs.declared.protocol.NextHeader.TheVariants.{Compressed, Uncompressed}
-use Rattle.sixlowpan.specs.declared.next.NextRead.{NextRead}
-
-abbrev pub of_next : NextRead → Read NextHeader
-of_next (NextRead.Field x c) = got x c.at
-of_next (NextRead.Refused e) = refused (number_of e)
 
 -- NH 0: the next header's 8 bits are carried inline; NH 1: they are elided, the next header is compressed too
 unfoldable pub next_header : ℕ → Reader NextHeader

@@ -1,14 +1,8 @@
 -- Which compressed next header stands at a place (RFC 6282, 4.2 and 4.3).
 use Rattle.std.specs.Prelude.{ℕ, ◌/◌, List, eqb}
 use Rattle.octets.specs.Read.{Answer, is, refused, and_then, choose, byte}
-use Rattle.octets.specs.Refusal.{number_of}
 use Rattle.sixlowpan.specs.declared.nhc.NhcPacket.{NhcPacket}
 use Rattle.sixlowpan.specs.declared.nhc.NhcPacket.TheVariants.{ExtHeader, UdpHeader}
-use Rattle.sixlowpan.specs.declared.nhc.NhcAnswer.{NhcAnswer}
-
-abbrev pub of_nhc : NhcAnswer → Answer NhcPacket
-of_nhc (NhcAnswer.Is p) = is p
-of_nhc (NhcAnswer.Refused e) = refused (number_of e)
 
 -- the leading bits: 1110 an extension header, 11110 a UDP header; anything else is refused, 2
 unfoldable pub nhc_of : ℕ → Answer NhcPacket

@@ -1,17 +1,11 @@
 -- Compressed IPv6 extension headers (RFC 6282, 4.2).
 use Rattle.std.specs.Prelude.{ℕ, ◌+◌, ◌*◌, ◌/◌, ◌%◌, List, ◌++◌, eqb}
-use Rattle.octets.specs.Read.{Read, Reader, got, refused, choose, branch, give, refuse, byte, ◌>>=◌}
-use Rattle.octets.specs.Refusal.{number_of}
+use Rattle.octets.specs.Read.{Reader, choose, branch, give, refuse, byte, ◌>>=◌}
 use Rattle.octets.specs.Write.{byte_bytes}
 use Rattle.sixlowpan.specs.Next.{next_header, next_bit, next_width, next_bytes}
 use Rattle.sixlowpan.specs.declared.nhc.ExtHeaderId.{ExtHeaderId}
 use Rattle.sixlowpan.specs.declared.nhc.ExtHeaderId.TheVariants.{HopByHopHeader, RoutingHeader, FragmentHeader, DestinationOptionsHeader, MobilityHeader, Header, Reserved}
 use Rattle.sixlowpan.specs.declared.nhc.ExtHeaderRepr.{ExtHeaderRepr}
-use Rattle.sixlowpan.specs.declared.nhc.ExtParsed.{ExtParsed}
-
-abbrev pub of_ext : ExtParsed → Read ExtHeaderRepr
-of_ext (ExtParsed.Header h c) = got h c.at
-of_ext (ExtParsed.Refused e) = refused (number_of e)
 
 -- the table of EID: 5 and 6 are reserved
 unfoldable pub id_of : ℕ → ExtHeaderId

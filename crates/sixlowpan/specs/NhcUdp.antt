@@ -1,26 +1,9 @@
 -- Compressed UDP headers (RFC 6282, 4.3).
-use Rattle.std.specs.Prelude.{ℕ, ◌+◌, ◌*◌, ◌/◌, ◌%◌, List, [], ◌++◌, Bool, ◌&&◌, eqb}
-use Rattle.octets.specs.Read.{Read, Reader, got, refused, choose, branch, give, refuse, byte, be16, ◌>>=◌}
-use Rattle.octets.specs.Refusal.{number_of}
+use Rattle.std.specs.Prelude.{ℕ, ◌+◌, ◌*◌, ◌/◌, ◌%◌, List, [], ◌++◌, Bool, ◌&&◌, eqb, Option, Some, None}
+use Rattle.octets.specs.Read.{Reader, choose, branch, give, refuse, byte, be16, ◌>>=◌}
 use Rattle.octets.specs.Write.{byte_bytes, be16_bytes}
-use Rattle.octets.specs.declared.field.WordField.{WordField}
 use Rattle.sixlowpan.specs.declared.nhc.UdpNhcRepr.{UdpNhcRepr}
-use Rattle.sixlowpan.specs.declared.nhc.UdpParsed.{UdpParsed}
 use Rattle.sixlowpan.specs.declared.nhc.Ports.{Ports}
-use Rattle.sixlowpan.specs.declared.nhc.PortsRead.{PortsRead}
-use Rattle.sixlowpan.specs.declared.nhc.ChecksumRead.{ChecksumRead}
-
-abbrev pub of_udp : UdpParsed → Read UdpNhcRepr
-of_udp (UdpParsed.Header h c) = got h c.at
-of_udp (UdpParsed.Refused e) = refused (number_of e)
-
-abbrev pub of_ports : PortsRead → Read Ports
-of_ports (PortsRead.Field x c) = got x c.at
-of_ports (PortsRead.Refused e) = refused (number_of e)
-
-abbrev pub of_checksum : ChecksumRead → Read WordField
-of_checksum (ChecksumRead.Field x c) = got x c.at
-of_checksum (ChecksumRead.Refused e) = refused (number_of e)
 
 -- ---- reading: 4.3.3, the table of P and C
 -- a port whose first 8 bits are f0 and elided, or one that is carried whole
@@ -49,13 +32,13 @@ ports p =
       give (record { src = source; dst = destination }))
 
 -- C 0: the checksum's 16 bits are carried; C 1: they are elided
-unfoldable pub checksum : ℕ → Reader WordField
+unfoldable pub checksum : ℕ → Reader (Option ℕ)
 checksum elided =
     branch (eqb elided 0)
     (do
       x ← be16
-      give (WordField.Some x))
-    (give WordField.None)
+      give (Some x))
+    (give None)
 
 --   0   1   2   3   4   5   6   7
 -- +---+---+---+---+---+---+---+---+
@@ -89,9 +72,9 @@ unfoldable pub form_of : ℕ → ℕ → ℕ
 form_of src dst = choose (both_port4 src dst) 0b11 (choose (port8 src) 0b10 (choose (port8 dst) 0b01 0b00))
 
 -- C: whether the checksum is elided
-abbrev pub elided_bit : WordField → ℕ
-elided_bit (WordField.Some x) = 0
-elided_bit WordField.None = 1
+abbrev pub elided_bit : Option ℕ → ℕ
+elided_bit (Some x) = 0
+elided_bit None = 1
 
 -- ---- how many bytes carry a port, the ports and the checksum
 abbrev pub port_width : Bool → ℕ
@@ -114,9 +97,9 @@ port_bytes short x = choose short (byte_bytes (x % 256)) (be16_bytes x)
 unfoldable pub ports_bytes : ℕ → ℕ → ℕ → List ℕ
 ports_bytes p src dst = choose (eqb p 0b11) (byte_bytes (src % 16 * 16 + dst % 16)) (port_bytes (eqb p 0b10) src ++ port_bytes (eqb p 0b01) dst)
 
-abbrev pub checksum_bytes : WordField → List ℕ
-checksum_bytes (WordField.Some x) = be16_bytes x
-checksum_bytes WordField.None = []
+abbrev pub checksum_bytes : Option ℕ → List ℕ
+checksum_bytes (Some x) = be16_bytes x
+checksum_bytes None = []
 
 -- ---- the header's first byte, its length and its bytes
 abbrev pub udp_form : UdpNhcRepr → ℕ

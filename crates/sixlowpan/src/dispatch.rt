@@ -1,52 +1,50 @@
 // Which header a frame's payload starts with.
+ghost use Rattle.octets.specs.Answers.{of_answer};
 ghost use Rattle.std.specs.Prelude.{◌≡◌};
-ghost use Rattle.sixlowpan.specs.Dispatch.{of_dispatch, dispatch_of, dispatch};
+ghost use Rattle.sixlowpan.specs.Dispatch.{dispatch_of, dispatch};
 
-use octets::cursor::{ByteRead, Cursor};
+use octets::cursor::Cursor;
 use octets::refusal::Refusal;
 
-#[derive(Clone, Copy)]
+#[derive(Clone, Copy, PartialEq, Eq)]
 pub enum SixlowpanPacket {
     FragmentHeader,
     IphcHeader,
 }
 
-#[derive(Clone, Copy)]
-pub enum DispatchAnswer {
-    Is(SixlowpanPacket),
-    Refused(Refusal),
-}
-
 impl SixlowpanPacket {
     // The kind of header whose first byte stands at the front of the bytes.
-    pub fn dispatch(buf: &[u8]) -> DispatchAnswer
-        ensures { of_dispatch result ≡ dispatch buf.now 0 }
+    // (`NhcPacket` has these two too: a trait with their laws would be longer than both.)
+    pub fn dispatch(buf: &[u8]) -> Result<SixlowpanPacket, Refusal>
+        ensures { of_answer result ≡ dispatch buf.now 0 }
     {
         SixlowpanPacket::dispatch_at(buf, Cursor::START)
     }
 
     // The kind of header whose first byte stands at a place of the bytes.
-    pub fn dispatch_at(buf: &[u8], c: Cursor) -> DispatchAnswer
-        ensures { of_dispatch result ≡ dispatch buf.now c.at }
+    #[tactic(auto, unfolding(crate::specs::Dispatch::dispatch))]
+    pub fn dispatch_at(buf: &[u8], c: Cursor) -> Result<SixlowpanPacket, Refusal>
+        ensures { of_answer result ≡ dispatch buf.now c.at }
     {
-        match c.byte(buf) {
-            ByteRead::Field(b, _) => SixlowpanPacket::of(b),
-            ByteRead::Refused(e) => DispatchAnswer::Refused(e),
-        }
+        let (b, _) = c.byte(buf)?;
+        SixlowpanPacket::try_from(b)
     }
+}
 
-    fn of(b: u8) -> DispatchAnswer
-        ensures { of_dispatch result ≡ dispatch_of b }
-    {
-        if b / 8 == 0b11000 {
-            return DispatchAnswer::Is(SixlowpanPacket::FragmentHeader);
-        }
-        if b / 8 == 0b11100 {
-            return DispatchAnswer::Is(SixlowpanPacket::FragmentHeader);
+// The kind of header that begins with a byte.
+impl TryFrom<u8> for SixlowpanPacket {
+    type Error = Refusal;
+
+    ghost try_from_gives = { λ b r. of_answer r ≡ dispatch_of b };
+
+    #[tactic(auto, unfolding(crate::specs::Dispatch::dispatch_of))]
+    fn try_from(b: u8) -> Result<SixlowpanPacket, Refusal> {
+        if b / 8 == 0b11000 || b / 8 == 0b11100 {
+            return Ok(SixlowpanPacket::FragmentHeader);
         }
         if b / 32 == 0b011 {
-            return DispatchAnswer::Is(SixlowpanPacket::IphcHeader);
+            return Ok(SixlowpanPacket::IphcHeader);
         }
-        DispatchAnswer::Refused(Refusal::NotThisHeader)
+        Err(Refusal::NotThisHeader)
     }
 }

@@ -1,30 +1,26 @@
 // The next header field, which extension headers and compressed IPv6 headers share.
+// `buf, at` is the lent room and a place in it, as the writers of octets take them.
+ghost use Rattle.octets.specs.Answers.{of_read};
 ghost use Rattle.std.specs.Prelude.{◌≡◌, ◌≤◌};
 ghost use Rattle.octets.specs.Write.{put};
-ghost use Rattle.sixlowpan.specs.Next.{of_next, next_header, next_bit, next_width, next_bytes};
+ghost use Rattle.sixlowpan.specs.Next.{next_header, next_bit, next_width, next_bytes};
 
 use super::protocol::{IpProtocol, NextHeader};
-use octets::cursor::{ByteRead, Cursor};
+use octets::cursor::{Cursor, Read};
 use octets::refusal::Refusal;
 use octets::write::put_byte;
 
-#[derive(Clone, Copy)]
-pub enum NextRead {
-    Field(NextHeader, Cursor),
-    Refused(Refusal),
-}
-
 // Inline where the bit NH is clear.
-pub fn read_next(buf: &[u8], c: Cursor, nh: u8) -> NextRead
-    ensures { of_next result ≡ next_header nh buf.now c.at }
+// (The bit is a number, as `next_header` of specs/Next.antt takes it.)
+#[tactic(auto, unfolding(crate::specs::Next::next_header))]
+pub fn read_next(buf: &[u8], c: Cursor, nh: u8) -> Read<NextHeader>
+    ensures { of_read result ≡ next_header nh buf.now c.at }
 {
     if nh == 0 {
-        match c.byte(buf) {
-            ByteRead::Field(p, d) => NextRead::Field(NextHeader::Uncompressed(IpProtocol(p)), d),
-            ByteRead::Refused(e) => NextRead::Refused(e),
-        }
+        let (p, d) = c.byte(buf)?;
+        Ok((NextHeader::Uncompressed(IpProtocol(p)), d))
     } else {
-        NextRead::Field(NextHeader::Compressed, c)
+        Ok((NextHeader::Compressed, c))
     }
 }
 
@@ -48,11 +44,11 @@ pub fn next_len(next: NextHeader) -> usize
     }
 }
 
+#[tactic(auto, unfolding(octets::specs::Write::put))]
 pub fn put_next(buf: &mut [u8], at: usize, next: NextHeader)
     ensures { buf.new ≡ put at (next_bytes next) buf.old }
 {
-    match next {
-        NextHeader::Compressed => {}
-        NextHeader::Uncompressed(p) => put_byte(buf, at, p.0),
+    if let NextHeader::Uncompressed(p) = next {
+        put_byte(buf, at, p.0);
     }
 }

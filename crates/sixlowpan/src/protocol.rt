@@ -1,7 +1,7 @@
 // What follows a header: a protocol number, carried inline or compressed.
 
 // The number of a protocol: every number, named or not.
-#[derive(Clone, Copy)]
+#[derive(Clone, Copy, PartialEq, Eq)]
 pub struct IpProtocol(pub u8);
 
 impl IpProtocol {
@@ -19,7 +19,7 @@ impl IpProtocol {
 }
 
 // The next header field of a compressed header.
-#[derive(Clone, Copy)]
+#[derive(Clone, Copy, PartialEq, Eq)]
 pub enum NextHeader {
     // The next header is compressed too, with NHC.
     Compressed,

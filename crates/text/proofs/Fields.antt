@@ -7,27 +7,27 @@ use borrow.Author.Tests.{lt-leb, eqb-false}
 use Rattle.octets.specs.Read.{choose}
 use Rattle.octets.specs.Write.{put}
 use Rattle.text.specs.Bytes.{index_of, index_after}
-use Rattle.text.specs.declared.field.NumberText.{NumberText}
-use Rattle.text.specs.declared.field.BytesText.{BytesText}
-use Rattle.text.specs.Fields.{none, part_of, behind_of, nibble_of, strays, hex_of, hex_at, no_number, digits_at, decimal_of, end_of, number_at, decimal_at, count_of, pairs_of, stray_pairs, pairs_in, are_pairs, bytes_at, room_after}
+use Rattle.std.specs.Prelude.{None, Some}
+use Rattle.std.specs.declared.option.Option.{Option}
+use Rattle.text.specs.Fields.{part_of, behind_of, nibble_of, strays, hex_of, hex_at, digits_at, decimal_of, end_of, number_at, decimal_at, count_of, pairs_of, stray_pairs, pairs_in, are_pairs, bytes_at, room_after}
 
 pub past : (s : List ℕ) (i : ℕ) → length s ≤ i → 0 ≡ get_or s i 0
 past s i h = sym (get_or-eq_default s 0 h)
 
 -- ---- the place behind a field
-pub at-space : (line : List ℕ) (end : ℕ) → end < length line → get_or line end 0 ≡ 32 → end + 1 ≡ behind_of line end
+pub at-space : (line : List ℕ) (end : ℕ) → end < length line → get_or line end 0 ≡ 32 → Some (end + 1) ≡ behind_of line end
 unfolding behind_of
 at-space line end h e = rw (ne_eqb end (length line) (λ p. omega (arith, p)), eq-eqb (get_or line end 0) 32 e) refl
 
-pub at_other : (line : List ℕ) (end : ℕ) → end < length line → (get_or line end 0 ≡ 32 → ⊥) → none ≡ behind_of line end
+pub at_other : (line : List ℕ) (end : ℕ) → end < length line → (get_or line end 0 ≡ 32 → ⊥) → None ≡ behind_of line end
 unfolding behind_of
 at_other line end h e = rw (ne_eqb end (length line) (λ p. omega (arith, p)), ne_eqb (get_or line end 0) 32 e) refl
 
-pub at-end : (line : List ℕ) (end : ℕ) → end ≡ length line → end + 1 ≡ behind_of line end
+pub at-end : (line : List ℕ) (end : ℕ) → end ≡ length line → Some (end + 1) ≡ behind_of line end
 unfolding behind_of
 at-end line end e = rw (eq-eqb end (length line) e) refl
 
-pub beyond : (line : List ℕ) (end : ℕ) → length line ≤ end → (end ≡ length line → ⊥) → none ≡ behind_of line end
+pub beyond : (line : List ℕ) (end : ℕ) → length line ≤ end → (end ≡ length line → ⊥) → None ≡ behind_of line end
 unfolding behind_of
 beyond line end h f =
     let z : get_or line end 0 ≡ 0 = get_or-eq_default line 0 h in
@@ -62,17 +62,17 @@ outside-go false q f = refl
 outside : (lo b hi : ℕ) → (lo ≤ b → b ≤ hi → ⊥) → (leb lo b && leb b hi) ≡ false
 outside lo b hi f = outside-go (leb lo b) (leb b hi) (λ e g. f (leb-true lo b e) (leb-true b hi g))
 
-pub is-letter : (b x : ℕ) → x < 6 → (x + 97) % 256 ≡ b → x + 10 ≡ nibble_of b
+pub is-letter : (b : ℕ) → b < 256 → (b + 159) % 256 < 6 → (b + 159) % 256 + 10 ≡ nibble_of b
 unfolding nibble_of
-is-letter b x h e = rw (within 97 b 102 (omega arith) (omega arith)) (omega arith)
+is-letter b l h = rw (within 97 b 102 (omega arith) (omega arith)) (omega arith)
 
-pub is-decimal : (b x y : ℕ) → 6 ≤ x → x < 256 → (x + 97) % 256 ≡ b → y < 10 → (y + 48) % 256 ≡ b → y ≡ nibble_of b
+pub is-decimal : (b : ℕ) → b < 256 → 6 ≤ (b + 159) % 256 → (b + 208) % 256 < 10 → (b + 208) % 256 ≡ nibble_of b
 unfolding nibble_of
-is-decimal b x y h l e g f = rw (outside 97 b 102 (λ p q. omega (arith, p, q)), within 48 b 57 (omega arith) (omega arith)) (omega arith)
+is-decimal b l h g = rw (outside 97 b 102 (λ p q. omega (arith, p, q)), within 48 b 57 (omega arith) (omega arith)) (omega arith)
 
-pub is-stray : (b x y : ℕ) → 6 ≤ x → x < 256 → (x + 97) % 256 ≡ b → 10 ≤ y → y < 256 → (y + 48) % 256 ≡ b → 16 ≡ nibble_of b
+pub is-stray : (b : ℕ) → b < 256 → 6 ≤ (b + 159) % 256 → 10 ≤ (b + 208) % 256 → 16 ≡ nibble_of b
 unfolding nibble_of
-is-stray b x y h l e g k f = rw (outside 97 b 102 (λ p q. omega (arith, p, q)), outside 48 b 57 (λ p q. omega (arith, p, q))) refl
+is-stray b l h g = rw (outside 97 b 102 (λ p q. omega (arith, p, q)), outside 48 b 57 (λ p q. omega (arith, p, q))) refl
 
 small-go : (p q : Bool) (b : ℕ) → (p ≡ true → b ≤ 102) → (q ≡ true → b ≤ 57) → choose p (b - 87) (choose q (b - 48) 16) ≤ 16
 small-go true q b f g = let h : b ≤ 102 = f refl in omega arith
@@ -146,13 +146,13 @@ pub stray-done : (i : ℕ) (s : List ℕ) → length s ≤ i → 0 ≡ strays (d
 unfolding strays
 stray-done i s h = ap strays (sym (drop_of_length-le s h))
 
-pub all_digits : (s : List ℕ) (v end : ℕ) → v ≡ hex_of 0 s → strays s ≡ 0 → ◌≡◌ {A = NumberText} (record { value = v; next = end }) (hex_at s end)
+pub all_digits : (s : List ℕ) (v end : ℕ) → v ≡ hex_of 0 s → strays s ≡ 0 → Some (v, end) ≡ hex_at s end
 unfolding hex_at
 all_digits s v end e z = rw (eq-eqb (strays s) 0 z, e) refl
 
-pub some-stray : (s : List ℕ) (v end : ℕ) → v ≡ hex_of 0 s → (strays s ≡ 0 → ⊥) → ◌≡◌ {A = NumberText} (record { value = v; next = none }) (hex_at s end)
+pub some-stray : (s : List ℕ) (end : ℕ) → (strays s ≡ 0 → ⊥) → None ≡ hex_at s end
 unfolding hex_at
-some-stray s v end e z = rw (ne_eqb (strays s) 0 z, e) refl
+some-stray s end z = rw (ne_eqb (strays s) 0 z) refl
 
 pub digits_in : (line : List ℕ) (from n : ℕ) → from + n ≤ length line → hex_at (take (from + n - from) (drop from line)) (from + n) ≡ digits_at line from n
 unfolding digits_at
@@ -160,13 +160,13 @@ digits_in line from n h =
     let e : from + n - from ≡ n = omega arith in
     rw (le-leb (from + n) (length line) h, e) refl
 
-pub digits-out : (line : List ℕ) (from n : ℕ) → length line < from + n → ◌≡◌ {A = NumberText} (record { value = 0; next = none }) (digits_at line from n)
-unfolding digits_at no_number
+pub digits-out : (line : List ℕ) (from n : ℕ) → length line < from + n → None ≡ digits_at line from n
+unfolding digits_at
 digits-out line from n h = rw (lt-leb (from + n) (length line) h) refl
 
 -- ---- decimal digits
 module _ (v i d end : ℕ) (s : List ℕ) (h : i < length s) (e : (d + 48) % 256 ≡ get_or s i 0) where
-  one-digit : d ≤ 9 → choose (leb 48 (get_or s i 0) && leb (get_or s i 0) 57) (choose (ltb (v * 10 + (get_or s i 0 - 48)) (2 ^ 64)) (decimal_of (v * 10 + (get_or s i 0 - 48)) (drop (suc i) s) end) no_number) no_number ≡ choose (ltb (v * 10 + d) (2 ^ 64)) (decimal_of (v * 10 + d) (drop (suc i) s) end) no_number
+  one-digit : d ≤ 9 → choose (leb 48 (get_or s i 0) && leb (get_or s i 0) 57) (choose (ltb (v * 10 + (get_or s i 0 - 48)) (2 ^ 64)) (decimal_of (v * 10 + (get_or s i 0 - 48)) (drop (suc i) s) end) None) None ≡ choose (ltb (v * 10 + d) (2 ^ 64)) (decimal_of (v * 10 + d) (drop (suc i) s) end) None
   one-digit l =
       let m : get_or s i 0 - 48 ≡ d = omega arith in
       rw (within 48 (get_or s i 0) 57 (omega arith) (omega arith), m) refl
@@ -175,37 +175,26 @@ module _ (v i d end : ℕ) (s : List ℕ) (h : i < length s) (e : (d + 48) % 256
   unfolding decimal_of
   decimal_step l g =
       ap (λ k. decimal_of (v * 10 + d) (drop k s) end) (add-one i)
-      ∙ sym (ap (λ t. choose t (decimal_of (v * 10 + d) (drop (suc i) s) end) no_number) (lt-ltb (v * 10 + d) (2 ^ 64) g))
+      ∙ sym (ap (λ t. choose t (decimal_of (v * 10 + d) (drop (suc i) s) end) None) (lt-ltb (v * 10 + d) (2 ^ 64) g))
       ∙ sym (one-digit l)
       ∙ ap (λ l. decimal_of v l end) (sym (drop-cons s i 0 h))
 
-  pub decimal-large : d ≤ 9 → 2 ^ 64 ≤ v * 10 + d → no_number ≡ decimal_of v (drop i s) end
+  pub decimal-large : d ≤ 9 → 2 ^ 64 ≤ v * 10 + d → None ≡ decimal_of v (drop i s) end
   unfolding decimal_of
   decimal-large l g =
-      sym (ap (λ t. choose t (decimal_of (v * 10 + d) (drop (suc i) s) end) no_number) (le-ltb (v * 10 + d) (2 ^ 64) g))
+      sym (ap (λ t. choose t (decimal_of (v * 10 + d) (drop (suc i) s) end) None) (le-ltb (v * 10 + d) (2 ^ 64) g))
       ∙ sym (one-digit l)
       ∙ ap (λ l. decimal_of v l end) (sym (drop-cons s i 0 h))
 
-  pub decimal-stray : 9 < d → d < 256 → no_number ≡ decimal_of v (drop i s) end
+  pub decimal-stray : 9 < d → d < 256 → None ≡ decimal_of v (drop i s) end
   unfolding decimal_of
   decimal-stray l g =
-      sym (ap (λ t. choose t (choose (ltb (v * 10 + (get_or s i 0 - 48)) (2 ^ 64)) (decimal_of (v * 10 + (get_or s i 0 - 48)) (drop (suc i) s) end) no_number) no_number) (outside 48 (get_or s i 0) 57 (λ p q. omega (arith, p, q))))
+      sym (ap (λ t. choose t (choose (ltb (v * 10 + (get_or s i 0 - 48)) (2 ^ 64)) (decimal_of (v * 10 + (get_or s i 0 - 48)) (drop (suc i) s) end) None) None) (outside 48 (get_or s i 0) 57 (λ p q. omega (arith, p, q))))
       ∙ ap (λ l. decimal_of v l end) (sym (drop-cons s i 0 h))
 
-pub no_number_lem : ◌≡◌ {A = NumberText} (record { value = 0; next = none }) no_number
-unfolding no_number
-no_number_lem = refl
-
-pub decimal-done : (v i end : ℕ) (s : List ℕ) → length s ≤ i → ◌≡◌ {A = NumberText} (record { value = v; next = end }) (decimal_of v (drop i s) end)
+pub decimal-done : (v i end : ℕ) (s : List ℕ) → length s ≤ i → Some (v, end) ≡ decimal_of v (drop i s) end
 unfolding decimal_of
 decimal-done v i end s h = ap (λ l. decimal_of v l end) (sym (drop_of_length-le s h))
-
--- ---- a field of so many digits
-pub number_is : (line : List ℕ) (from n next : ℕ) (d : NumberText) → d ≡ digits_at line from n → next ≡ behind_of line d.next → ◌≡◌ {A = NumberText} (record { value = d.value; next = next }) (number_at line from n)
-unfolding number_at
-number_is line from n next d p q =
-    ap (λ k. record { value = d.value; next = k }) q
-    ∙ ap (λ e. record { value = e.value; next = behind_of line e.next }) p
 
 -- ---- a field of decimal digits
 index-after-within : (t : Bool) (k n : ℕ) → k ≤ n → index_after t k ≤ suc n
@@ -213,7 +202,7 @@ unfolding index_after
 index-after-within true k n h = omega arith
 index-after-within false k n h = omega arith
 
-index-within : (b : ℕ) (s : List ℕ) → index_of b s ≤ length s
+pub index-within : (b : ℕ) (s : List ℕ) → index_of b s ≤ length s
 unfolding index_of
 index-within b [] = omega arith
 index-within b (x ∷ s) = index-after-within (eqb x b) (index_of b s) (length s) (index-within b s)
@@ -221,12 +210,15 @@ index-within b (x ∷ s) = index-after-within (eqb x b) (index_of b s) (length s
 pub end-within : (line : List ℕ) (from end : ℕ) → end ≡ from + index_of 32 (drop from line) → from < end → end ≤ length line
 end-within line from end e h = omega (arith, e, index-within 32 (drop from line), length-drop from line)
 
+pub word_ends : (line : List ℕ) (from : ℕ) → from ≤ length line → from + index_of 32 (drop from line) ≤ length line
+word_ends line from h = omega (arith, index-within 32 (drop from line), length-drop from line)
+
 pub decimal-in : (line : List ℕ) (from end : ℕ) → end ≡ from + index_of 32 (drop from line) → from < end → decimal_of 0 (take (end - from) (drop from line)) (end + 1) ≡ decimal_at line from
 unfolding decimal_at end_of
 decimal-in line from end e h = rw (← e, lt-ltb from end h) refl
 
-pub decimal-out : (line : List ℕ) (from end : ℕ) → end ≡ from + index_of 32 (drop from line) → end ≤ from → ◌≡◌ {A = NumberText} (record { value = 0; next = none }) (decimal_at line from)
-unfolding decimal_at end_of no_number
+pub decimal-out : (line : List ℕ) (from end : ℕ) → end ≡ from + index_of 32 (drop from line) → end ≤ from → None ≡ decimal_at line from
+unfolding decimal_at end_of
 decimal-out line from end e h = rw (← e, le-ltb from end h) refl
 
 -- ---- pairs of digits: those that are put, and those that are left to put
@@ -305,50 +297,6 @@ module _ (n : ℕ) (s room : List ℕ) where
   pairs-in h g = rw (le-leb n (length room) h, le-leb n (length s / 2) g) refl
 
 -- ---- a field of bytes
-module _ (line : List ℕ) (from end : ℕ) where
-  pub count-empty : end ≤ from → none ≡ count_of line from end
-  unfolding count_of
-  count-empty h = rw (le-ltb from end h) refl
-
-  pub count-even : from < end → (end - from) % 2 ≡ 0 → (end - from) / 2 ≡ count_of line from end
-  unfolding count_of
-  count-even h e = rw (lt-ltb from end h, eq-eqb ((end - from) % 2) 0 e) refl
-
-  pub count-dash : from < end → end - from ≡ 1 → get_or line from 0 ≡ 45 → 0 ≡ count_of line from end
-  unfolding count_of
-  count-dash h e d = rw (lt-ltb from end h, e, eq-eqb (get_or line from 0) 45 d) refl
-
-  pub count-one : from < end → end - from ≡ 1 → (get_or line from 0 ≡ 45 → ⊥) → none ≡ count_of line from end
-  unfolding count_of
-  count-one h e d = rw (lt-ltb from end h, e, ne_eqb (get_or line from 0) 45 d) refl
-
-  pub count-odd : from < end → ((end - from) % 2 ≡ 0 → ⊥) → (end - from ≡ 1 → ⊥) → none ≡ count_of line from end
-  unfolding count_of
-  count-odd h e d = rw (lt-ltb from end h, ne_eqb ((end - from) % 2) 0 e, ne_eqb (end - from) 1 d) refl
-
-module _ (line : List ℕ) (from end n : ℕ) (room : List ℕ) (e : n ≡ count_of line from end) where
-  pub bytes-none : length room < n → (◌≡◌ {A = BytesText} (record { count = 0; next = none }) (bytes_at line from end room)) × (room ≡ room_after line from end room)
-  unfolding bytes_at room_after
-  bytes-none h =
-      let z = no_room n (part_of from (n * 2) line) room h in
-      (rw (← e, ← z.0) refl, rw (← e) z.1)
-
-  module _ (p after : List ℕ) (t : Bool) (q : p ≡ part_of from (n * 2) line) (f : (t ≡ are_pairs n p room) × (after ≡ pairs_in n p room)) where
-    room-told : after ≡ room_after line from end room
-    unfolding room_after
-    room-told = f.1 ∙ rw (← e, ← q) refl
-
-    told : t ≡ are_pairs (count_of line from end) (part_of from (count_of line from end * 2) line) room
-    told = f.0 ∙ rw (← e, ← q) refl
-
-    pub bytes-got : (next : ℕ) → t ≡ true → next ≡ behind_of line end → (◌≡◌ {A = BytesText} (record { count = n; next = next }) (bytes_at line from end room)) × (after ≡ room_after line from end room)
-    unfolding bytes_at
-    bytes-got next g k = (rw (← told, g, k, e) refl, room-told)
-
-    pub bytes-bad : t ≡ false → (◌≡◌ {A = BytesText} (record { count = 0; next = none }) (bytes_at line from end room)) × (after ≡ room_after line from end room)
-    unfolding bytes_at
-    bytes-bad g = (rw (← told, g) refl, room-told)
-
 pub bytes-end : (line : List ℕ) (from end : ℕ) → end ≡ from + index_of 32 (drop from line) → end ≡ end_of line from
 unfolding end_of
 bytes-end line from end e = e

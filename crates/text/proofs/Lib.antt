@@ -1,3 +1,5 @@
 pub mod Printing
 pub mod Lines
 pub mod Fields
+pub mod Waiting
+pub mod Splitting

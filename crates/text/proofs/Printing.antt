@@ -1,6 +1,8 @@
 -- What a printer leaves, from the runs that it puts.
 use Rattle.std.proofs.Common.{◌≡◌, ℕ, zero, suc, ◌+◌, ◌-◌, ◌*◌, ◌/◌, ◌%◌, ◌<◌, ◌≤◌, List, [], ◌∷◌, length, get_or, drop, set, sym, refl, ap, ◌∙◌, not-suc-le-zero, add_assoc, add-one, sub-one, arith, length-append, drop_of_length-le, drop-cons, le-leb}
-use lib.Seq.{set_comm}
+use lib.Seq.{set_comm, sets, sets-eq}
+use borrow.Rule.Slice.PartMut.{put_mid}
+use Rattle.std.proofs.Common.{take, append_assoc, ◌++◌, drop-drop}
 use borrow.Author.Tests.{lt-leb}
 use Rattle.octets.specs.Write.{put}
 use Rattle.octets.proofs.Puts.{put-append}
@@ -15,13 +17,22 @@ pub printed-none : (at : ℕ) (t was : List ℕ) → length was < at + length t 
 printed-none at t was h =
     record { filled = rw (lt-leb (at + length t) (length was) h) refl; behind = rw (lt-leb (at + length t) (length was) h) refl }
 
--- ---- a text, byte by byte: what is left goes on from the next place
-pub text-step : (at i : ℕ) (s out : List ℕ) → i < length s → put (at + (i + 1)) (drop (i + 1) s) (set out (at + i) (get_or s i 0)) ≡ put (at + i) (drop i s) out
+-- ---- a text
+put-sets : (at : ℕ) (bs l : List ℕ) → put at bs l ≡ sets l at bs
 unfolding put
-text-step at i s out h =
-    ap (λ k. put (at + (i + 1)) (drop k s) (set out (at + i) (get_or s i 0))) (add-one i)
-    ∙ ap (λ k. put k (drop (suc i) s) (set out (at + i) (get_or s i 0))) (sym (add_assoc at i 1))
-    ∙ ap (λ l. put (at + i) l out) (sym (drop-cons s i 0 h))
+put-sets at [] l = refl
+put-sets at (b ∷ bs) l = put-sets (at + 1) bs (set l at b) ∙ ap (λ k. sets (set l at b) k bs) (add-one at)
+
+pub put-inside : (at : ℕ) (bs l : List ℕ) → at + length bs ≤ length l → put at bs l ≡ (take at l ++ bs) ++ drop (at + length bs) l
+put-inside at bs l h = put-sets at bs l ∙ sets-eq bs l at h
+
+pub copied : (at k : ℕ) (s r l : List ℕ) → at + length s ≤ length l → k ≡ length s → r ≡ s → put_mid at k l r ≡ put at s l
+copied at k s r l h e f =
+    let d : drop k (drop at l) ≡ drop (at + length s) l = drop-drop k at l ∙ ap (λ n. drop (at + n) l) e in
+    ap (λ t. take at l ++ (t ++ drop k (drop at l))) f
+    ∙ ap (λ t. take at l ++ (s ++ t)) d
+    ∙ sym (append_assoc (take at l) s (drop (at + length s) l))
+    ∙ sym (put-inside at s l h)
 
 -- ---- digits, from the last to the first
 put-set : (at : ℕ) (bs l : List ℕ) (j g : ℕ) → at + length bs ≤ j → set (put at bs l) j g ≡ put at bs (set l j g)
@@ -71,10 +82,6 @@ bytes-step at i s out g h l p q =
     ∙ ap (λ z. put k (hex_bytes z) out) (sym (drop-cons s i 0 l))
 
 -- ---- the end of each loop: nothing is left
-pub text-done : (at i : ℕ) (s out : List ℕ) → length s ≤ i → out ≡ put (at + i) (drop i s) out
-unfolding put
-text-done at i s out h = ap (λ l. put (at + i) l out) (sym (drop_of_length-le s h))
-
 pub hex-done : (at i rest : ℕ) (out : List ℕ) → i ≡ 0 → out ≡ put at (last_digits 16 i rest) out
 unfolding put
 hex-done at i rest out h = ap (λ k. put at (last_digits 16 k rest) out) (sym h)

@@ -1,32 +1,19 @@
 // The fields of a line, read one after another.
 //
 // A place in a line is where its next field starts, and one past its length behind the last field. Each reader takes a
-// place and answers the field's value with the next place. Where the field is not of its kind, the next place is NONE:
-// no field starts there, so every later reader answers NONE too, and only the last place of a line has to be tested.
+// place and answers the field's value with the next place, or None where the field is not of its kind; `?` hands that
+// on. `Fields` keeps the line and the place.
 ghost use Rattle.std.specs.Prelude.{◌≡◌, ◌+◌, length, take, ◌==◌, slice_index};
-ghost use Rattle.text.specs.Fields.{part_of, behind_of, nibble_of, hex_at, digits_at, decimal_of, end_of, number_at};
+ghost use Rattle.text.specs.Fields.{part_of, behind_of, nibble_of, hex_at, digits_at, decimal_of, end_of};
+ghost use Rattle.text.specs.Fields.{number_at};
+ghost use Rattle.std.specs.Prelude.{None, Some, option_map, unwrap_or};
+ghost use Rattle.octets.specs.Read.{choose};
+ghost use Rattle.text.specs.Fields.{read_of, place_of, letter_at, word_at};
 ghost use Rattle.text.specs.Fields.{decimal_at, count_of, pairs_in, are_pairs, bytes_at, room_after};
 
 use super::line::find;
-use std::num::wrapping_sub_u8;
 
-pub const NONE: usize = usize::MAX;
-
-// A number that a field says.
-#[derive(Clone, Copy)]
-pub struct NumberText {
-    pub value: u64,
-    pub next: usize,
-}
-
-// How many bytes a field in hexadecimal holds.
-#[derive(Clone, Copy)]
-pub struct BytesText {
-    pub count: usize,
-    pub next: usize,
-}
-
-// The byte at a place, or 0 past the end.
+// The byte at a place, or 0 past the end: one line, so that a function shared by all crates would be as long.
 pub fn at(s: &[u8], i: usize) -> u8
     ensures { result ≡ slice_index s.now i }
 {
@@ -44,6 +31,7 @@ pub fn upto(s: &[u8], n: usize) -> &[u8]
 }
 
 // So many bytes from a place on; none where there are fewer.
+#[tactic(auto, unfolding(crate::specs::Fields::part_of))]
 pub fn part(s: &[u8], from: usize, n: usize) -> &[u8]
     ensures { result.now ≡ part_of from n s.now }
 {
@@ -65,28 +53,30 @@ pub fn ended(line: &[u8], next: usize) -> bool
 }
 
 // The place behind a field that is to end at `end`.
-pub fn behind(line: &[u8], end: usize) -> usize
+#[tactic(auto, unfolding(crate::specs::Fields::behind_of))]
+pub fn behind(line: &[u8], end: usize) -> Option<usize>
     ensures { result ≡ behind_of line.now end }
 {
     if end < line.len() {
         if line[end] == b' ' {
-            return end + 1;
+            return Some(end + 1);
         }
-        return NONE;
+        return None;
     }
     if end == line.len() {
-        return end + 1;
+        return Some(end + 1);
     }
-    NONE
+    None
 }
 
 // The value of a hexadecimal digit, or 16. Two differences that wrap and two tests compile to code without jumps, which
 // drawn digits would mispredict.
+// 16 and no None, as `nibble_of` of specs/Fields: what is no digit is gathered by an or, with no test for each.
 fn nibble(b: u8) -> u8
     ensures { result ≡ nibble_of b }
 {
-    let decimal = wrapping_sub_u8(b, b'0');
-    let letter = wrapping_sub_u8(b, b'a');
+    let decimal = b.wrapping_sub(b'0');
+    let letter = b.wrapping_sub(b'a');
     if letter < 6 {
         letter + 10
     } else if decimal < 10 {
@@ -96,95 +86,74 @@ fn nibble(b: u8) -> u8
     }
 }
 
-// The number of hexadecimal digits, its low 64 bits, and the place `end` behind them; NONE where one is no digit.
-fn value(s: &[u8], end: usize) -> NumberText
+// The number of hexadecimal digits, its low 64 bits, and the place `end` behind them; None where one is no digit.
+fn value(s: &[u8], end: usize) -> Option<(u64, usize)>
     ensures { result ≡ hex_at s.now end }
 {
     let mut value: u64 = 0;
     let mut worst: u8 = 0;
-    let mut i: usize = 0;
-    while i < s.len() {
-        let d = nibble(s[i]);
+    for b in s {
+        let d = nibble(*b);
         worst = worst | d;
         value = value % 0x1000_0000_0000_0000 * 16 + (d % 16) as u64;
-        i += 1;
     }
-    NumberText {
-        value,
-        next: if worst < 16 { end } else { NONE },
+    if worst < 16 {
+        return Some((value, end));
     }
+    None
 }
 
 // So many hexadecimal digits, and the place just behind them.
-pub fn digits(line: &[u8], from: usize, n: usize) -> NumberText
+// This and the four readers below stay beside the methods of `Fields`: public, an equation each on line and place.
+#[tactic(auto, unfolding(crate::specs::Fields::digits_at))]
+pub fn digits(line: &[u8], from: usize, n: usize) -> Option<(u64, usize)>
     ensures { result ≡ digits_at line.now from n }
 {
     if line.len() < n {
-        return NumberText {
-            value: 0,
-            next: NONE,
-        };
+        return None;
     }
     if line.len() - n < from {
-        return NumberText {
-            value: 0,
-            next: NONE,
-        };
+        return None;
     }
     let end = from + n;
     value(&line[from..end], end)
 }
 
 // A field of so many hexadecimal digits.
-pub fn number(line: &[u8], from: usize, n: usize) -> NumberText
+#[tactic(auto, unfolding(crate::specs::Fields::number_at))]
+pub fn number(line: &[u8], from: usize, n: usize) -> Option<(u64, usize)>
     ensures { result ≡ number_at line.now from n }
 {
-    let d = digits(line, from, n);
-    NumberText {
-        value: d.value,
-        next: behind(line, d.next),
-    }
+    let (x, end) = digits(line, from, n)?;
+    let next = behind(line, end)?;
+    Some((x, next))
 }
 
-// The number of decimal digits, and the place `end` behind them; NONE where one is no digit, or it does not fit.
-fn decimal_value(s: &[u8], end: usize) -> NumberText
+// The number of decimal digits, and the place `end` behind them; None where one is no digit, or it does not fit.
+fn decimal_value(s: &[u8], end: usize) -> Option<(u64, usize)>
     ensures { result ≡ decimal_of 0 s.now end }
 {
     let mut value: u64 = 0;
-    let mut i: usize = 0;
-    while i < s.len() {
-        let d = wrapping_sub_u8(s[i], b'0');
+    for b in s {
+        let d = b.wrapping_sub(b'0');
         if 9 < d {
-            return NumberText {
-                value: 0,
-                next: NONE,
-            };
+            return None;
         }
-        let digit = d as u64;
-        if (u64::MAX - digit) / 10 < value {
-            return NumberText {
-                value: 0,
-                next: NONE,
-            };
-        }
-        value = value * 10 + digit;
-        i += 1;
+        value = value.checked_mul(10)?.checked_add(d as u64)?;
     }
-    NumberText { value, next: end }
+    Some((value, end))
 }
 
 // A field of decimal digits that say a number of 64 bits.
-pub fn decimal(line: &[u8], from: usize) -> NumberText
+#[tactic(auto, unfolding(crate::specs::Fields::decimal_at, crate::specs::Fields::end_of))]
+pub fn decimal(line: &[u8], from: usize) -> Option<(u64, usize)>
     ensures { result ≡ decimal_at line.now from }
 {
     let end = find(line, from, b' ');
     if from < end {
         return decimal_value(&line[from..end], end + 1);
     }
-    NumberText {
-        value: 0,
-        next: NONE,
-    }
+    None
 }
 
 // Puts the bytes of so many pairs of digits to the front of the room; answers whether all were there, and each is a
@@ -200,64 +169,59 @@ fn pairs(s: &[u8], room: &mut [u8], n: usize) -> bool
         return false;
     }
     let mut worst: u8 = 0;
-    let mut i: usize = 0;
-    while i < n {
+    // By index: the room goes by one and the digits by two, and a zip with `chunks_exact(2)` names both by index too.
+    for i in 0..n {
         let hi = nibble(s[i * 2]);
         let lo = nibble(s[i * 2 + 1]);
         worst = worst | hi | lo;
         room[i] = hi % 16 * 16 + lo % 16;
-        i += 1;
     }
     worst < 16
 }
 
-// How many bytes a field from one place to another holds: '-' none, pairs of digits one each; NONE where it is neither.
-fn count(line: &[u8], from: usize, end: usize) -> usize
+// How many bytes a field from one place to another holds: '-' none, pairs of digits one each; None where it is neither.
+#[tactic(auto, unfolding(crate::specs::Fields::count_of))]
+fn count(line: &[u8], from: usize, end: usize) -> Option<usize>
     ensures { result ≡ count_of line.now from end }
 {
     if end <= from {
-        return NONE;
+        return None;
     }
     let n = end - from;
     if n % 2 == 0 {
-        return n / 2;
+        return Some(n / 2);
     }
     if n == 1 {
         if at(line, from) == b'-' {
-            return 0;
+            return Some(0);
         }
-        return NONE;
+        return None;
     }
-    NONE
+    None
 }
 
 // A field from one place to another, of bytes in hexadecimal, '-' for none, put into the room. A space is no digit, so
 // what ends at the line's end and is all digits is one field.
-fn bytes_to(line: &[u8], from: usize, end: usize, room: &mut [u8]) -> BytesText
+#[tactic(auto, unfolding(crate::specs::Fields::bytes_at, crate::specs::Fields::room_after, crate::specs::Fields::are_pairs, crate::specs::Fields::pairs_in))]
+fn bytes_to(line: &[u8], from: usize, end: usize, room: &mut [u8]) -> Option<(usize, usize)>
     ensures { (result ≡ bytes_at line.now from end room.old)
         × (room.new ≡ room_after line.now from end room.old) }
 {
-    let n = count(line, from, end);
+    let n = count(line, from, end)?;
     if room.len() < n {
-        return BytesText {
-            count: 0,
-            next: NONE,
-        };
+        return None;
     }
     if pairs(part(line, from, n * 2), room, n) {
-        return BytesText {
-            count: n,
-            next: behind(line, end),
-        };
+        let next = behind(line, end)?;
+        return Some((n, next));
     }
-    BytesText {
-        count: 0,
-        next: NONE,
-    }
+    None
 }
 
-// A field of bytes in hexadecimal, '-' for none, put to the front of the room.
-pub fn bytes(line: &[u8], from: usize, room: &mut [u8]) -> BytesText
+// A field of bytes in hexadecimal, '-' for none, put to the front of the room: how many there are.
+// A count beside the lent room, as `bytes_at` of specs/Fields has it: no heap, so no Vec.
+#[tactic(auto, unfolding(crate::specs::Fields::end_of))]
+pub fn bytes(line: &[u8], from: usize, room: &mut [u8]) -> Option<(usize, usize)>
     ensures { (result ≡ bytes_at line.now from (end_of line.now from) room.old)
         × (room.new
         ≡ room_after line.now from (end_of line.now from) room.old) }
@@ -267,9 +231,139 @@ pub fn bytes(line: &[u8], from: usize, room: &mut [u8]) -> BytesText
 }
 
 // The bytes of a line's last field: its end need not be looked for.
-pub fn last_bytes(line: &[u8], from: usize, room: &mut [u8]) -> BytesText
+pub fn last_bytes(line: &[u8], from: usize, room: &mut [u8]) -> Option<(usize, usize)>
     ensures { (result ≡ bytes_at line.now from (length line.now) room.old)
         × (room.new ≡ room_after line.now from (length line.now) room.old) }
 {
     bytes_to(line, from, line.len(), room)
+}
+
+// A line, and the place where its next field starts. A reader that answers None leaves the place. The functions above,
+// which take and answer places, are public still: what they promise stands.
+#[derive(Clone, Copy)]
+pub struct Fields<'a> {
+    pub line: &'a [u8],
+    pub at: usize,
+}
+
+impl<'a> Fields<'a> {
+    // All fields of a line.
+    pub const fn new(line: &'a [u8]) -> Fields<'a>
+        ensures { (result.line.now ≡ line.now) × (result.at ≡ 0) }
+    {
+        Fields { line, at: 0 }
+    }
+
+    // The next byte, or 0 where there is none.
+    pub fn peek(&self) -> u8
+        ensures { result ≡ slice_index self.now.line.now self.now.at }
+    {
+        at(self.line, self.at)
+    }
+
+    // Passes over one byte of the field.
+    pub fn letter(&mut self) -> Option<u8>
+        ensures value { result ≡ read_of (letter_at self.old.line.now self.old.at) }
+        ensures place { self.new.at ≡ place_of (letter_at self.old.line.now self.old.at) self.old.at }
+        ensures line { self.new.line.now ≡ self.old.line.now }
+    {
+        let b = *self.line.get(self.at)?;
+        self.at += 1;
+        Some(b)
+    }
+
+    // The field ends here.
+    pub fn close(&mut self) -> Option<()>
+        ensures value { result ≡ option_map (λ _. tt) (behind_of self.old.line.now self.old.at) }
+        ensures place { self.new.at ≡ unwrap_or (behind_of self.old.line.now self.old.at) self.old.at }
+        ensures line { self.new.line.now ≡ self.old.line.now }
+    {
+        self.at = behind(self.line, self.at)?;
+        Some(())
+    }
+
+    // Any field, as it stands.
+    #[tactic(auto, using(crate::proofs::Fields::word_ends), unfolding(crate::specs::Fields::end_of))]
+    pub fn word(&mut self) -> Option<&'a [u8]>
+        ensures value { option_map (λ w. w.now) result ≡ read_of (word_at self.old.line.now self.old.at) }
+        ensures place { self.new.at ≡ place_of (word_at self.old.line.now self.old.at) self.old.at }
+        ensures line { self.new.line.now ≡ self.old.line.now }
+    {
+        let end = find(self.line, self.at, b' ');
+        let word = self.line.get(self.at..end)?;
+        self.at = end + 1;
+        Some(word)
+    }
+
+    pub fn digits(&mut self, n: usize) -> Option<u64>
+        ensures value { result ≡ read_of (digits_at self.old.line.now self.old.at n) }
+        ensures place { self.new.at ≡ place_of (digits_at self.old.line.now self.old.at n) self.old.at }
+        ensures line { self.new.line.now ≡ self.old.line.now }
+    {
+        let (x, next) = digits(self.line, self.at, n)?;
+        self.at = next;
+        Some(x)
+    }
+
+    pub fn number(&mut self, n: usize) -> Option<u64>
+        ensures value { result ≡ read_of (number_at self.old.line.now self.old.at n) }
+        ensures place { self.new.at ≡ place_of (number_at self.old.line.now self.old.at n) self.old.at }
+        ensures line { self.new.line.now ≡ self.old.line.now }
+    {
+        let (x, next) = number(self.line, self.at, n)?;
+        self.at = next;
+        Some(x)
+    }
+
+    pub fn decimal(&mut self) -> Option<u64>
+        ensures value { result ≡ read_of (decimal_at self.old.line.now self.old.at) }
+        ensures place { self.new.at ≡ place_of (decimal_at self.old.line.now self.old.at) self.old.at }
+        ensures line { self.new.line.now ≡ self.old.line.now }
+    {
+        let (x, next) = decimal(self.line, self.at)?;
+        self.at = next;
+        Some(x)
+    }
+
+    // How many bytes the field put to the front of the room.
+    pub fn bytes(&mut self, room: &mut [u8]) -> Option<usize>
+        ensures value { result
+            ≡ read_of (bytes_at self.old.line.now self.old.at (end_of self.old.line.now self.old.at) room.old) }
+        ensures place { self.new.at
+            ≡ place_of (bytes_at self.old.line.now self.old.at (end_of self.old.line.now self.old.at) room.old)
+            self.old.at }
+        ensures line { self.new.line.now ≡ self.old.line.now }
+        ensures room { room.new
+            ≡ room_after self.old.line.now self.old.at (end_of self.old.line.now self.old.at) room.old }
+    {
+        let (n, next) = bytes(self.line, self.at, room)?;
+        self.at = next;
+        Some(n)
+    }
+
+    // The same for the line's last field.
+    pub fn last_bytes(&mut self, room: &mut [u8]) -> Option<usize>
+        ensures value { result
+            ≡ read_of (bytes_at self.old.line.now self.old.at (length self.old.line.now) room.old) }
+        ensures place { self.new.at
+            ≡ place_of (bytes_at self.old.line.now self.old.at (length self.old.line.now) room.old)
+            self.old.at }
+        ensures line { self.new.line.now ≡ self.old.line.now }
+        ensures room { room.new
+            ≡ room_after self.old.line.now self.old.at (length self.old.line.now) room.old }
+    {
+        let (n, next) = last_bytes(self.line, self.at, room)?;
+        self.at = next;
+        Some(n)
+    }
+
+    // All fields were read.
+    pub fn end(&self) -> Option<()>
+        ensures { result ≡ choose (self.now.at == length self.now.line.now + 1) (Some tt) None }
+    {
+        if ended(self.line, self.at) {
+            return Some(());
+        }
+        None
+    }
 }

@@ -9,5 +9,7 @@
 #![tactic(auto)]
 
 pub mod field;
+pub mod input;
 pub mod line;
+pub mod out;
 pub mod print;

@@ -8,17 +8,16 @@ fn holds(s: &[u8], b: u8) -> bool
     ensures { result ≡ false → index_of b s.now ≡ length s.now }
 {
     let mut found = false;
-    let mut i: usize = 0;
-    while i < s.len() {
-        if s[i] == b {
+    for x in s {
+        if *x == b {
             found = true;
         }
-        i += 1;
     }
     found
 }
 
-// A place from which the first b is found as from the given one: sixteen bytes at a time are passed while none is b.
+// A place from which the first b is found as from the given one: sixteen bytes at a time are passed while none is b,
+// which is for speed: a step looks at a vector.
 fn near(s: &[u8], from: usize, b: u8) -> usize
     ensures { result + index_of b (drop result s.now) ≡ from + index_of b (drop from s.now) }
 {
@@ -40,6 +39,7 @@ fn near(s: &[u8], from: usize, b: u8) -> usize
 pub fn find(s: &[u8], from: usize, b: u8) -> usize
     ensures { result ≡ from + index_of b (drop from s.now) }
 {
+    // From a place that may lie past the end, so that no part of the slice can be taken.
     let mut i = near(s, from, b);
     while i < s.len() {
         if s[i] == b {
@@ -51,14 +51,11 @@ pub fn find(s: &[u8], from: usize, b: u8) -> usize
 }
 
 // Moves the bytes from a place on to the front; those behind them stay.
+#[tactic(auto, using(crate::proofs::Lines::moved_front, crate::proofs::Lines::moved_none))]
 pub fn shift(s: &mut [u8], from: usize)
     ensures { s.new ≡ put 0 (drop from s.old) s.old }
 {
-    let mut i: usize = 0;
-    let mut j = from;
-    while j < s.len() {
-        s[i] = s[j];
-        i += 1;
-        j += 1;
+    if from < s.len() {
+        s.copy_within(from.., 0);
     }
 }

@@ -1,5 +1,6 @@
 // Each puts its text at a place of the room and answers the place after it, or puts nothing and answers the place where
 // there is no room for all of it.
+// A place by value and no struct over the room: public functions, and `Printed` speaks of the room and the place.
 ghost use Rattle.std.specs.Prelude.{◌≡◌, ◌<◌, [], ◌∷◌};
 ghost use Rattle.io.specs.Digits.{last_digits};
 ghost use Rattle.io.specs.Digits.{hex_digit_ascii as Digits·glyph};
@@ -24,12 +25,9 @@ pub fn text(out: &mut [u8], at: usize, s: &[u8]) -> usize
     if out.len() - s.len() < at {
         return at;
     }
-    let mut i: usize = 0;
-    while i < s.len() {
-        out[at + i] = s[i];
-        i += 1;
-    }
-    at + s.len()
+    let end = at + s.len();
+    out[at..end].copy_from_slice(s);
+    end
 }
 
 // The character of a hexadecimal digit.
@@ -50,10 +48,9 @@ pub fn hex(out: &mut [u8], at: usize, x: u64, n: usize) -> usize
     if out.len() - n < at {
         return at;
     }
-    let mut i = n;
+    // From the last digit to the first: the number that is left is divided on the way.
     let mut rest = x;
-    while 0 < i {
-        i -= 1;
+    for i in (0..n).rev() {
         out[at + i] = glyph((rest % 16) as u8);
         rest = rest / 16;
     }
@@ -70,13 +67,12 @@ pub fn bytes(out: &mut [u8], at: usize, s: &[u8]) -> usize
     if (out.len() - at) / 2 < s.len() {
         return at;
     }
-    let mut i: usize = 0;
-    while i < s.len() {
+    // By index: the bytes go by one and the room by two.
+    for i in 0..s.len() {
         let b = s[i];
         let k = at + i * 2;
         out[k] = glyph(b / 16);
         out[k + 1] = glyph(b % 16);
-        i += 1;
     }
     at + s.len() * 2
 }

@@ -7,7 +7,6 @@ use mathlib.Core.List.{List, [], ◌∷◌}
 use lib.ListN.{length, get_or, set}
 use lib.Seq.{set-get_or}
 use lib.Dec.{eqb, leb}
-use borrow.Author.Tests.{ne_eqb}
 use Rattle.octets.specs.Write.{put}
 use Rattle.reassembly.specs.Slots.{free_slot, expired, expire1, expire}
 use Rattle.reassembly.specs.Table.{with_slots}
@@ -34,19 +33,14 @@ module _ (ws : List ℕ) (i : ℕ) (h : i < 8) (t : ℕ) where
   unfolding expire1
   kept e = stays (table_in ws) i free_slot _ (rw e refl)
 
-  pub age-free : (get_or ws (i * 17 + 15) 0 ≡ 1 → ⊥) → table_in ws ≡ with_slot (table_in ws) i (expire1 t (get_or (table_in ws).slots i free_slot))
-  age-free o = kept (old-is ∙ rw (ne_eqb (get_or ws (i * 17 + 15) 0) 1 o) refl)
-
-  module _ (b : Bool) (l : get_or ws (i * 17 + 15) 0 ≡ 1) (e : b ≡ (eqb 1 1 && leb 60000 (t - get_or ws (i * 17 + 6) 0))) where
-    told : expired t (get_or (table_in ws).slots i free_slot) ≡ b
-    told = old-is ∙ ap (λ x. eqb x 1 && leb 60000 (t - get_or ws (i * 17 + 6) 0)) l ∙ sym e
-
+  -- b is the test of its age
+  module _ (b : Bool) (e : b ≡ (eqb (get_or ws (i * 17 + 15) 0) 1 && leb 60000 (t - get_or ws (i * 17 + 6) 0))) where
     pub age-young : b ≡ false → table_in ws ≡ with_slot (table_in ws) i (expire1 t (get_or (table_in ws).slots i free_slot))
-    age-young f = kept (told ∙ f)
+    age-young f = kept (old-is ∙ sym e ∙ f)
 
     pub age-old : b ≡ true → (s : Slot) → s ≡ free_slot → with_slot (table_in ws) i s ≡ with_slot (table_in ws) i (expire1 t (get_or (table_in ws).slots i free_slot))
     unfolding expire1
-    age-old f s q = ap (with_slot (table_in ws) i) (q ∙ sym (rw (told ∙ f) refl))
+    age-old f s q = ap (with_slot (table_in ws) i) (q ∙ sym (rw (old-is ∙ sym e ∙ f) refl))
 
 -- ---- the loop: the table tb, whose first i slots are aged
 

@@ -3,6 +3,6 @@ pub mod Numbers
 pub mod Keys
 pub mod Stores
 pub mod Ages
-pub mod Loops
+pub mod Chains
 pub mod Gates
 pub mod Unique

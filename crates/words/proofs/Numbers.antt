@@ -4,8 +4,8 @@ use native.Mathlib.Nat.{add-zero, zero-add}
 use native.Mathlib.Omega.{arith}
 use mathlib.Core.Path.{◌≡◌, refl, sym, ap, ap₂, ◌∙◌}
 use mathlib.Core.List.{List, [], ◌∷◌}
-use lib.ListN.{length, get_or, set, replicate, get_or-replicate}
-use lib.Seq.{set_out, get_or-set_same, get_or-set_other}
+use lib.ListN.{length, get_or, replicate, get_or-replicate}
+use lib.Seq.{set_out}
 use Rattle.octets.specs.Write.{put}
 use Rattle.reassembly.specs.Slots.{no_node, no_source, no_key, free_slot}
 use Rattle.reassembly.specs.Table.{with_slots}
@@ -196,22 +196,16 @@ unfolding source_in node_in no_source no_node
 zero-source = refl
 
 -- numbers that are all 0
-pub table-clear : (ws : List ℕ) → ((k : ℕ) → k < 149 → get_or ws k 0 ≡ 0) → table_in ws ≡ record { slots = replicate 8 free_slot; last = 0; gateways = replicate 4 no_source }
+pub table-clear : (ws : List ℕ) → ws ≡ replicate 149 0 → table_in ws ≡ record { slots = replicate 8 free_slot; last = 0; gateways = replicate 4 no_source }
 unfolding table_in slots_in seats_in
-table-clear ws z =
+table-clear ws e =
+    let z : (k : ℕ) → k < 149 → get_or ws k 0 ≡ 0 = λ k b. ap (λ (l : List ℕ). get_or l k 0) e ∙ get_or-replicate 149 k 0 0 b in
     let s = sym (each-is free_slot (replicate 8 free_slot) 8 (λ j. slot_in ws (j * 17)) refl
     (λ j k. get_or-replicate 8 j free_slot free_slot k ∙ sym (slot_same ws [] (j * 17) 0 (λ d b. z (j * 17 + d) (omega arith)) ∙ zero-slot))) in
     let l = z 136 (omega arith) in
     let g = sym (each-is no_source (replicate 4 no_source) 4 (λ j. source_in ws (137 + j * 3)) refl
     (λ j k. get_or-replicate 4 j no_source no_source k ∙ sym (source-same ws [] (137 + j * 3) 0 (λ d b. z (137 + j * 3 + d) (omega arith)) ∙ zero-source))) in
     λ x. record { slots = s x; last = l x; gateways = g x }
-
--- one number more that is 0
-pub zero_more : (ws us : List ℕ) (k : ℕ) → length ws ≡ 149 → k < 149 → us ≡ set ws k 0 → ((j : ℕ) → j < k → get_or ws j 0 ≡ 0)
-    → (j : ℕ) → j < k + 1 → get_or us j 0 ≡ 0
-zero_more ws us k n h e z j b = ap (λ l. get_or l j 0) e ∙ by_order k j
-    (λ l. let q : j ≡ k = omega arith in rw q (get_or-set_same ws k 0 0 (omega arith)))
-    (λ l. get_or-set_other ws k j 0 0 (λ q. omega arith) ∙ z j l)
 
 -- four seats, stored one after the other in a table that has none
 pub table-begun : (l : List Source) → length l ≡ 4 → (a b c d e : Table)

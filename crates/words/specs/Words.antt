@@ -5,7 +5,9 @@
 --     3 destination: kind  4 number                      time
 --     5 size + tag * 2^16 + sum.ip * 2^32 + sum.udp * 2^48
 --     6 since   7..10 covered   11..14 starts   15 live   16 sum.kind
-use Rattle.std.specs.Prelude.{ℕ, zero, suc, ◌+◌, ◌*◌, ◌/◌, ◌%◌, List, [], ◌∷◌, ◌++◌, get_or, set}
+use Rattle.std.specs.Prelude.{ℕ, zero, suc, ◌+◌, ◌*◌, ◌/◌, ◌%◌, List, [], ◌∷◌, ◌++◌, get_or, set, eqb, ltb, Bool, not, ◌&&◌, Option, Some, None}
+use Rattle.octets.specs.Read.{choose}
+use Rattle.reassembly.specs.Slots.{same_source, present, held}
 use Rattle.expand.specs.declared.checksum.UdpSum.{UdpSum}
 use Rattle.reassembly.specs.declared.slot.Node.{Node}
 use Rattle.reassembly.specs.declared.slot.Source.{Source}
@@ -54,6 +56,17 @@ seats_in ws = each 4 0 (λ i. source_in ws (137 + i * 3))
 
 unfoldable pub table_in : List ℕ → Table
 table_in ws = record { slots = slots_in ws; last = get_or ws 136 0; gateways = seats_in ws }
+
+-- the slot of a number, and none where the number is 8 or more
+unfoldable pub found : ℕ → Option ℕ
+found i = choose (ltb i 8) (Some i) None
+
+-- ---- the tests of a seat: it is a's; it is that of another gateway than g that holds no slot
+abbrev pub seat : Source → Source → Bool
+seat a g = present g && same_source a g
+
+abbrev pub idle_seat : List Slot → Source → Source → Bool
+idle_seat l g h = present h && (not (same_source h g) && eqb (held h l) 0)
 
 -- ---- the table after a store: slot i is s; seat i is s. There is no slot 8 and no seat 4, and nothing is stored there
 unfoldable pub with_slot : Table → ℕ → Slot → Table

@@ -24,3 +24,6 @@ pub const SLOT_WORDS: usize = 17;
 pub const LAST: usize = 136;
 
 pub const SEATS: usize = 137;
+
+// The seats of gateways that a table has.
+pub const GATEWAYS: usize = 4;

@@ -1,4 +1,5 @@
 // What the numbers say.
+// The bounds are those of an index, each told where the array is read.
 ghost use Rattle.std.specs.Prelude.{◌≡◌, ◌+◌, ◌*◌, ◌<◌, ◌≤◌, get_or};
 ghost use Rattle.reassembly.specs.Slots.{free_slot};
 ghost use Rattle.words.specs.Words.{source_in, four_in, key_of, sum_of, slot_in, table_in};
@@ -9,6 +10,7 @@ use reassembly::table::SLOTS;
 use reassembly::{Key, Node, Slot, Source};
 
 // The last time that the table took.
+#[tactic(auto, unfolding(crate::specs::Words::table_in))]
 pub fn last(t: &[u64; WORDS]) -> u64
     ensures { result ≡ (table_in t.now).last }
 {
@@ -16,17 +18,22 @@ pub fn last(t: &[u64; WORDS]) -> u64
 }
 
 // The sender at a place.
+#[tactic(auto, unfolding(crate::specs::Words::source_in, crate::specs::Words::node_in))]
 pub(crate) fn source_at(t: &[u64; WORDS], k: usize) -> Source
     requires { k + 3 ≤ 149 }
     ensures { result ≡ source_in t.now k }
 {
-    let kind = t[k];
-    let number = t[k + 1];
-    let pan = t[k + 2];
-    let node = Node { kind, number };
-    Source { node, pan }
+    Source {
+        node: Node {
+            kind: t[k],
+            number: t[k + 1],
+        },
+        pan: t[k + 2],
+    }
 }
 
+// Four words by value, here and in `put_four`: a rule of the project.
+#[tactic(auto, unfolding(crate::specs::Words::four_in))]
 fn four_at(t: &[u64; WORDS], k: usize) -> [u64; 4]
     requires { k + 4 ≤ 149 }
     ensures { result ≡ four_in t.now k }
@@ -34,6 +41,7 @@ fn four_at(t: &[u64; WORDS], k: usize) -> [u64; 4]
     [t[k], t[k + 1], t[k + 2], t[k + 3]]
 }
 
+#[tactic(auto, unfolding(crate::specs::Words::key_of))]
 fn key_of(src: Source, dst: Node, w: u64) -> Key
     ensures { result ≡ key_of src dst w }
 {
@@ -45,6 +53,8 @@ fn key_of(src: Source, dst: Node, w: u64) -> Key
     }
 }
 
+// The kind stays a number: each 64-bit number is one table (`table-one`).
+#[tactic(auto, unfolding(crate::specs::Words::sum_of))]
 fn sum_of(kind: u64, w: u64) -> UdpSum
     ensures { result ≡ sum_of kind w }
 {
@@ -60,24 +70,17 @@ fn slot_from(t: &[u64; WORDS], k: usize) -> Slot
     requires { k + 17 ≤ 149 }
     ensures { result ≡ slot_in t.now k }
 {
-    let src = source_at(t, k);
     let dst = Node {
         kind: t[k + 3],
         number: t[k + 4],
     };
-    let key = key_of(src, dst, t[k + 5]);
-    let since = t[k + 6];
-    let covered = four_at(t, k + 7);
-    let starts = four_at(t, k + 11);
-    let live = t[k + 15];
-    let sum = sum_of(t[k + 16], t[k + 5]);
     Slot {
-        key,
-        since,
-        covered,
-        starts,
-        live,
-        sum,
+        key: key_of(source_at(t, k), dst, t[k + 5]),
+        since: t[k + 6],
+        covered: four_at(t, k + 7),
+        starts: four_at(t, k + 11),
+        live: t[k + 15],
+        sum: sum_of(t[k + 16], t[k + 5]),
     }
 }
 
@@ -86,7 +89,8 @@ pub fn slot_at(t: &[u64; WORDS], i: usize) -> Slot
     ensures { result ≡ get_or (table_in t.now).slots i free_slot }
 {
     if i < SLOTS {
-        return slot_from(t, i * SLOT_WORDS);
+        slot_from(t, i * SLOT_WORDS)
+    } else {
+        Slot::free()
     }
-    Slot::free()
 }

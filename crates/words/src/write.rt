@@ -1,41 +1,25 @@
 // The numbers changed.
-ghost use Rattle.std.specs.Prelude.{◌≡◌, ◌+◌, ◌*◌, ◌<◌, ◌≤◌, length, get_or, set, replicate};
+// The bounds are those of an index, each told where the array is written.
+ghost use Rattle.std.specs.Prelude.{◌≡◌, ◌+◌, ◌*◌, ◌<◌, ◌≤◌, get_or, replicate};
 ghost use Rattle.octets.specs.Write.{put};
-ghost use Rattle.reassembly.specs.Slots.{free_slot, no_source, expire, expire1};
+ghost use Rattle.reassembly.specs.Slots.{free_slot, expire, expire1};
 ghost use Rattle.reassembly.specs.Fresh.{Begins};
 ghost use Rattle.reassembly.specs.Table.{with_slots};
 ghost use Rattle.words.specs.Words.{four_in, table_in, with_slot, with_seat};
 ghost use Rattle.words.specs.Words.{source_words, head_words, packed, slot_words};
 
 use super::{LAST, SEATS, SLOT_WORDS, WORDS};
+use octets::refusal::Refusal;
 use reassembly::slot::is_expired;
 use reassembly::table::SLOTS;
-use reassembly::{Gateway, Listed, Slot, Source, seat};
-
-// How many numbers a slice has.
-fn count_words(t: &[u64]) -> usize
-    ensures { result ≡ length t.now }
-{
-    t.len()
-}
-
-// The proof knows the length of an array behind a reference only where the array is lent as a slice: what stores
-// numbers goes through here, and learns it. No code is left of the count.
-fn put_word(t: &mut [u64; WORDS], k: usize, v: u64)
-    requires { k < 149 }
-    ensures { (length t.old ≡ 149) × (t.new ≡ set t.old k v) }
-{
-    count_words(t);
-    t[k] = v;
-}
+use reassembly::{Gateway, Slot, Source, seat};
 
 fn put_source(t: &mut [u64; WORDS], k: usize, s: Source)
     requires { k + 3 ≤ 149 }
-    ensures { (length t.old ≡ 149) × (t.new ≡ put k (source_words s) t.old) }
+    ensures { t.new ≡ put k (source_words s) t.old }
 {
-    let node = s.node;
-    put_word(t, k, node.kind);
-    t[k + 1] = node.number;
+    t[k] = s.node.kind;
+    t[k + 1] = s.node.number;
     t[k + 2] = s.pan;
 }
 
@@ -49,6 +33,7 @@ fn put_four(t: &mut [u64; WORDS], k: usize, v: [u64; 4])
     t[k + 3] = v[3];
 }
 
+#[tactic(auto, unfolding(crate::specs::Words::packed))]
 fn pack(size: u16, tag: u16, ip: u16, udp: u16) -> u64
     ensures { result ≡ packed size tag ip udp }
 {
@@ -60,31 +45,22 @@ fn put_head(t: &mut [u64; WORDS], k: usize, s: Slot)
     requires { k + 4 ≤ 149 }
     ensures { t.new ≡ put k (head_words s) t.old }
 {
-    let key = s.key;
-    let dst = key.dst;
-    let sum = s.sum;
-    let w = pack(key.size, key.tag, sum.ip, sum.udp);
-    t[k] = dst.kind;
-    t[k + 1] = dst.number;
-    t[k + 2] = w;
+    t[k] = s.key.dst.kind;
+    t[k + 1] = s.key.dst.number;
+    t[k + 2] = pack(s.key.size, s.key.tag, s.sum.ip, s.sum.udp);
     t[k + 3] = s.since;
 }
 
 fn put_words(t: &mut [u64; WORDS], k: usize, s: Slot)
     requires { k + 17 ≤ 149 }
-    ensures { (length t.old ≡ 149) × (t.new ≡ put k (slot_words s) t.old) }
+    ensures { t.new ≡ put k (slot_words s) t.old }
 {
-    let key = s.key;
-    let src = key.src;
-    let covered = s.covered;
-    let starts = s.starts;
-    let sum = s.sum;
-    put_source(t, k, src);
+    put_source(t, k, s.key.src);
     put_head(t, k + 3, s);
-    put_four(t, k + 7, covered);
-    put_four(t, k + 11, starts);
+    put_four(t, k + 7, s.covered);
+    put_four(t, k + 11, s.starts);
     t[k + 15] = s.live;
-    t[k + 16] = sum.kind;
+    t[k + 16] = s.sum.kind;
 }
 
 // Makes s the record of slot i; nothing is written where there is no such slot.
@@ -103,10 +79,8 @@ fn age_slot(t: &mut [u64; WORDS], i: usize, time: u64)
         (expire1 time (get_or (table_in t.old).slots i free_slot)) }
 {
     let k = i * SLOT_WORDS;
-    if t[k + 15] == 1 {
-        if is_expired(1, t[k + 6], time) {
-            put_slot(t, i, Slot::free());
-        }
+    if is_expired(t[k + 15], t[k + 6], time) {
+        put_slot(t, i, Slot::free());
     }
 }
 
@@ -115,12 +89,10 @@ pub fn age(t: &mut [u64; WORDS], time: u64)
     ensures { table_in t.new ≡ with_slots (table_in t.old) time
         (expire time (table_in t.old).slots) }
 {
-    let mut i: usize = 0;
-    while i < SLOTS {
+    for i in 0..SLOTS {
         age_slot(t, i, time);
-        i = i + 1;
     }
-    put_word(t, LAST, time);
+    t[LAST] = time;
 }
 
 fn put_seat(t: &mut [u64; WORDS], i: usize, s: Source)
@@ -130,45 +102,28 @@ fn put_seat(t: &mut [u64; WORDS], i: usize, s: Source)
     put_source(t, SEATS + i * 3, s);
 }
 
-// Every number 0: the table of free slots that has no gateway.
 fn clear(t: &mut [u64; WORDS])
-    ensures { table_in t.new
-        ≡ record { slots = replicate 8 free_slot; last = 0; gateways = replicate 4 no_source } }
+    ensures { t.new ≡ replicate 149 0 }
 {
-    let mut k: usize = 0;
-    while k < WORDS {
-        put_word(t, k, 0);
-        k = k + 1;
-    }
+    t.fill(0);
 }
 
-// A table at its beginning, of these seats.
+// A table at its beginning, of these seats (four by value: a rule of the project): every other number is 0.
 fn sit(t: &mut [u64; WORDS], seats: [Source; 4])
     ensures { table_in t.new ≡ record { slots = replicate 8 free_slot; last = 0; gateways = seats } }
 {
     clear(t);
-    let a = seats[0];
-    put_seat(t, 0, a);
-    let b = seats[1];
-    put_seat(t, 1, b);
-    let c = seats[2];
-    put_seat(t, 2, c);
-    let d = seats[3];
-    put_seat(t, 3, d);
+    put_seat(t, 0, seats[0]);
+    put_seat(t, 1, seats[1]);
+    put_seat(t, 2, seats[2]);
+    put_seat(t, 3, seats[3]);
 }
 
 // A table of the first `count` of these gateways, at its beginning; a refused list, 14, leaves it as it was.
-pub fn begin(t: &mut [u64; WORDS], gateways: [Gateway; 4], count: usize) -> Listed
+// (A count beside the gateways, as `seat` of reassembly takes them.)
+pub fn begin(t: &mut [u64; WORDS], gateways: [Gateway; 4], count: usize) -> Result<(), Refusal>
     ensures { Begins result (table_in t.old) (table_in t.new) count gateways }
 {
-    let s = seat(gateways, count);
-    let answer = s.answer;
-    match answer {
-        Listed::Accepted => {
-            let seats = s.seats;
-            sit(t, seats);
-            Listed::Accepted
-        }
-        Listed::Refused(e) => Listed::Refused(e),
-    }
+    sit(t, seat(gateways, count)?);
+    Ok(())
 }

@@ -1,8 +1,5 @@
 use Rattle.std.proofs.Common.{◌≡◌, length}
 use Rattle.from_pcap.proofs.move_all.Given as goal
 
-abbrev pub invariant-loop-left : goal.invariant-loop-left
-invariant-loop-left l = length l.out ≡ length l.initial.out
-
-abbrev pub decreases-loop-left : goal.decreases-loop-left
-decreases-loop-left l = l.left
+abbrev pub invariant-loop : goal.invariant-loop
+invariant-loop l = length l.out ≡ length l.initial.out

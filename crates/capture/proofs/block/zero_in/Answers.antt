@@ -1,16 +1,16 @@
-use mathlib.Core.Path.{refl, ◌∙◌}
-use native.Mathlib.Omega.{arith}
-use Rattle.capture.proofs.BlockSteps.{zero_turn, zero-not, zero-end}
+use mathlib.Core.Path.{◌∙◌}
+use Prim.Native.Nat.{◌-◌}
+use lib.Dec.{eqb}
+use lib.ListN.{take, drop}
+use borrow.Author.Tests.{tests}
+use Rattle.std.proofs.Common.{rules}
+use Rattle.std.proofs.lemmas.Iterator.{YieldsList-from_slice}
+use Rattle.std.proofs.lemmas.Iterator.Search.{all_from_yields_List}
+use Rattle.capture.proofs.BlockSteps.{zero_in-is}
 use Rattle.capture.proofs.block.zero_in.Goals as goal
 
-pub loop-i-init : goal.loop-i-init
-loop-i-init c = (omega arith, refl)
-
-pub returns-then-s-i-ne0 : goal.returns-then-s-i-ne0
-returns-then-s-i-ne0 c = zero-not _ _ _ c.loop-i-test.true c.requires.1 c.if-s-i-ne0.true ∙ c.loop-i.invariant.1
-
-pub loop-i-preserved : goal.loop-i-preserved
-loop-i-preserved c = (omega arith, zero_turn _ _ _ c.loop-i-test.true c.requires.1 c.if-s-i-ne0.false ∙ c.loop-i.invariant.1)
-
 pub returns : goal.returns
-returns c = zero-end _ _ _ c.loop-i.invariant.0 c.loop-i-test.false ∙ c.loop-i.invariant.1
+returns c =
+    let s = c.args.s.now in
+    all_from_yields_List (λ b. eqb b 0) _ _ _ c.all.ensures.ran (YieldsList-from_slice (take (c.args.to - c.args.from) (drop c.args.from s)) (cc)) (λ x b q k. search (rules, tests))
+    ∙ zero_in-is c.args.from c.args.to s c.requires.0

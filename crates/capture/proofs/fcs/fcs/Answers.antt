@@ -2,10 +2,8 @@ use mathlib.Core.Path.{◌≡◌, refl, sym, ap, ◌∙◌}
 use mathlib.Core.Bool.{Bool}
 use mathlib.Core.List.{List}
 use Prim.Native.Nat.{ℕ, ◌+◌}
-use native.Mathlib.Omega.{arith}
 use lib.Dec.{T, eqb, eqb→eq}
 use lib.ListN.{length, drop, get_or}
-use borrow.Author.Rules.{rules}
 use Rattle.capture.specs.Fcs.{byte_in, bits_in, fcs_from, IsTable}
 use Rattle.capture.proofs.Register.{turn, end}
 use Rattle.capture.proofs.Entries.{every, at}
@@ -19,20 +17,20 @@ is-table : (l : List ℕ) → length l ≡ 256 → T (every right 0 l) → IsTab
 unfolding IsTable right
 is-table l e t n h = eqb→eq (get_or l n 0) (byte_in 0 n) (at right l t n (rw e h))
 
-pub loop-i-init : goal.loop-i-init
-loop-i-init c = (omega arith, refl)
+pub loop-b-init : goal.loop-b-init
+loop-b-init c = refl
 
 pub byte_in-r-requires : goal.byte_in-r-requires
 unfolding bits_in right
 byte_in-r-requires c = is-table _ refl tt
 
-pub loop-i-preserved : goal.loop-i-preserved
-loop-i-preserved c =
+pub loop-b-preserved : goal.loop-b-preserved
+loop-b-preserved c =
     let s = c.args.s.now in
-    let i = c.loop-i.i in
-    (search rules, ap (λ (x : ℕ). fcs_from x (drop (i + 1) s)) c.byte_in-r.ensures ∙ turn s i c.loop-i.r c.loop-i-test.true ∙ c.loop-i.invariant.1)
+    let i = c.loop-b.b-index in
+    ap (λ (x : ℕ). fcs_from x (drop (i + 1) s)) c.byte_in-r.ensures ∙ turn s i c.loop-b.r c.loop-b-test.true ∙ c.loop-b.invariant
 
 pub returns : goal.returns
 returns c =
-    sym (end c.args.s.now c.loop-i.i c.loop-i.r c.loop-i-test.false)
-    ∙ c.loop-i.invariant.1
+    sym (end c.args.s.now c.loop-b.b-index c.loop-b.r c.loop-b-test.false)
+    ∙ c.loop-b.invariant

@@ -1,14 +1,17 @@
+use Rattle.std.proofs.lemmas.Result.{err_from_is_err_and}
 use Rattle.cutting.proofs.WriteLaws.{of-piece, past-last, not_ours, not-both}
 use Rattle.cutting.proofs.write.write_frame.Goals as goal
 
-pub returns-in-Is : goal.returns-in-Is
-returns-in-Is c = of-piece _ _ _ _ _ _ _ _ _ _ _ c.requires c.has_both.ensures c.if-has_both.true c.is_ours.ensures c.if-is_ours.true c.plan_of-plan.ensures.0 c.piece_at.ensures c.in-Is.is c.write_piece.ensures.0 c.write_piece.ensures.1
+pub returns-then-not-has_both : goal.returns-then-not-has_both
+returns-then-not-has_both c = not-both _ _ _ _ _ c.requires c.has_both.ensures c.if-not-has_both.true
 
-pub returns-in-Refused : goal.returns-in-Refused
-returns-in-Refused c = past-last _ _ _ _ _ _ _ _ _ c.requires c.has_both.ensures c.if-has_both.true c.is_ours.ensures c.if-is_ours.true c.plan_of-plan.ensures.0 c.piece_at.ensures c.in-Refused.is
+pub returns-then-not-is_ours : goal.returns-then-not-is_ours
+returns-then-not-is_ours c = not_ours _ _ _ _ _ _ c.requires c.has_both.ensures c.if-not-has_both.false c.is_ours.ensures c.if-not-is_ours.true
 
-pub returns-else-is_ours : goal.returns-else-is_ours
-returns-else-is_ours c = not_ours _ _ _ _ _ _ c.requires c.has_both.ensures c.if-has_both.true c.is_ours.ensures c.if-is_ours.false
+pub returns-in_err-p : goal.returns-in_err-p
+returns-in_err-p c = let p = err_from_is_err_and c.from_residual.result c.from_residual.ensures.1 in
+    rw (p.1, p.2)
+    (past-last _ _ _ _ _ _ _ _ _ c.requires c.has_both.ensures c.if-not-has_both.false c.is_ours.ensures c.if-not-is_ours.false c.plan_of-plan.ensures.0 c.piece_at.ensures c.in_err-p.was)
 
-pub returns-else-has_both : goal.returns-else-has_both
-returns-else-has_both c = not-both _ _ _ _ _ c.requires c.has_both.ensures c.if-has_both.false
+pub returns : goal.returns
+returns c = of-piece _ _ _ _ _ _ _ _ _ _ _ c.requires c.has_both.ensures c.if-not-has_both.false c.is_ours.ensures c.if-not-is_ours.false c.plan_of-plan.ensures.0 c.piece_at.ensures c.in_ok-p.was c.write_piece.ensures.0 c.write_piece.ensures.1

@@ -1,3 +1,4 @@
+use Rattle.std.proofs.lemmas.Result.{err_from_is_err_and}
 use Rattle.expand.proofs.WalkLaws.{ends-unknown, ends-udp, ends-udp-no}
 use native.Mathlib.Omega.{arith}
 use lib.ListN.{length-drop}
@@ -12,8 +13,9 @@ overflow_cast-len c = omega (arith, c.left.ensures, length-drop c.args.c.at c.ar
 pub overflow_add-len-2 : goal.overflow_add-len-2
 overflow_add-len-2 c = omega (arith, c.left.ensures, length-drop c.args.c.at c.args.frame.now, c.requires.0, c.requires.1)
 
-pub returns-in-Is : goal.returns-in-Is
-returns-in-Is c = ends-udp c.args.size c.args.w c.args.h c.args.frame.now c.args.out.now c.args.c.at _ _ _ c.is_unknown.ensures c.if-is_unknown.false c.left.ensures c.total_in.ensures _ _ _ _ _ c.in-Is.is c.less.ensures c.put_udp.ensures c.put_slice.ensures c.sum_for-sum.ensures
+pub returns-in_err-total : goal.returns-in_err-total
+returns-in_err-total c = let p = err_from_is_err_and c.from_residual.result c.from_residual.ensures.1 in
+    rw (p.1, p.2) (ends-udp-no c.args.size c.args.w c.args.h c.args.frame.now c.args.out.now c.args.c.at _ _ c.is_unknown.ensures c.if-is_unknown.false c.left.ensures _ c.in_err-total.ensures)
 
-pub returns-in-Refused : goal.returns-in-Refused
-returns-in-Refused c = ends-udp-no c.args.size c.args.w c.args.h c.args.frame.now c.args.out.now c.args.c.at _ _ _ c.is_unknown.ensures c.if-is_unknown.false c.left.ensures c.total_in.ensures _ c.in-Refused.is
+pub returns : goal.returns
+returns c = ends-udp c.args.size c.args.w c.args.h c.args.frame.now c.args.out.now c.args.c.at _ _ c.is_unknown.ensures c.if-is_unknown.false c.left.ensures _ _ _ _ _ c.in_ok-total.ensures c.saturating_sub.ensures c.put_udp.ensures c.put_slice.ensures c.sum_for-sum.ensures

@@ -6,10 +6,7 @@ use Rattle.expand.specs.Chain.{header_then, chain, chained}
 use Rattle.expand.specs.Walk.{start, Onward}
 use Rattle.expand.proofs.chain.put_headers.Given as goal
 
-abbrev pub invariant-loop-count : goal.invariant-loop-count
-invariant-loop-count l = (length l.places ≡ 8) × (length l.out ≡ length l.initial.out) × (l.count + l.way.left ≤ 7) × (l.way.at + 40 * (l.way.left + 1) + (length l.frame - l.c.at) ≤ 447)
-    × ((i : ℕ) → i < l.count → get_or l.places i 0 ≤ 447)
-    × Onward (take l.count l.places) start (chained l.contexts l.initial.ll.src l.initial.ll.dst l.frame l.initial.c.at) l.initial.out l.way (header_then l.contexts l.ll.src l.ll.dst (chain l.way.left l.contexts) l.frame l.c.at) l.out
-
-abbrev pub decreases-loop-count : goal.decreases-loop-count
-decreases-loop-count l = 8 - l.count
+abbrev pub invariant-loop-k : goal.invariant-loop-k
+invariant-loop-k l = (length l.places ≡ 8) × (length l.out ≡ length l.initial.out) × (l.k + l.way.left ≤ 7) × (l.way.at + 40 * (l.way.left + 1) + (length l.frame - l.c.at) ≤ 447)
+    × ((i : ℕ) → i < l.k → get_or l.places i 0 ≤ 447)
+    × Onward (take l.k l.places) start (chained l.contexts l.initial.ll.src l.initial.ll.dst l.frame l.initial.c.at) l.initial.out l.way (header_then l.contexts l.ll.src l.ll.dst (chain l.way.left l.contexts) l.frame l.c.at) l.out

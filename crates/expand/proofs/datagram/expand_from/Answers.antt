@@ -1,4 +1,4 @@
-use native.Mathlib.Omega.{arith}
+use Rattle.std.proofs.lemmas.Result.{err_from_is_err_and}
 use mathlib.Core.Path.{refl}
 use Rattle.expand.proofs.WalkLaws.{from-outer}
 use Rattle.expand.proofs.FillLaws.{expansion-long, walk_refused, walk-answered, walk-written}
@@ -7,11 +7,12 @@ use Rattle.expand.proofs.datagram.expand_from.Goals as goal
 pub returns-then-frame-gt127 : goal.returns-then-frame-gt127
 returns-then-frame-gt127 c = let e = expansion-long c.args.contexts.now c.args.ll.src c.args.ll.dst c.args.size c.args.frame.now c.args.c.at c.if-frame-gt127.true in (rw e refl, tt)
 
-pub header-requires : goal.header-requires
-header-requires c = (omega (arith, c.if-frame-gt127.false), c.if-frame-gt127.false)
+pub returns-in_err-end : goal.returns-in_err-end
+returns-in_err-end c = let p = err_from_is_err_and c.from_residual.result c.from_residual.ensures.1 in
+    rw (p.1, p.2) (walk_refused c.args.contexts.now c.args.ll.src c.args.ll.dst c.args.size c.args.frame.now c.args.c.at c.if-frame-gt127.false c.args.room.now _ _ (from-outer c.args.contexts.now c.args.frame.now c.args.room.now _ c.args.ll.src c.args.ll.dst c.args.c.at c.args.size _ c.in_err-end.ensures), tt)
 
-pub returns-in-End : goal.returns-in-End
-returns-in-End c = (walk-answered c.args.contexts.now c.args.ll.src c.args.ll.dst c.args.size c.args.frame.now c.args.c.at c.if-frame-gt127.false _ c.args.room.now _ (from-outer c.args.contexts.now c.args.frame.now c.args.room.now _ c.args.ll.src c.args.ll.dst c.args.c.at c.args.size _ c.header.ensures) _ _ c.in-End.is, walk-written c.args.contexts.now c.args.ll.src c.args.ll.dst c.args.size c.args.frame.now c.args.c.at c.if-frame-gt127.false _ c.args.room.now _ (from-outer c.args.contexts.now c.args.frame.now c.args.room.now _ c.args.ll.src c.args.ll.dst c.args.c.at c.args.size _ c.header.ensures) _ _ c.in-End.is _ c.put_elided.ensures)
-
-pub returns-in-Refused : goal.returns-in-Refused
-returns-in-Refused c = (walk_refused c.args.contexts.now c.args.ll.src c.args.ll.dst c.args.size c.args.frame.now c.args.c.at c.if-frame-gt127.false _ c.args.room.now _ (from-outer c.args.contexts.now c.args.frame.now c.args.room.now _ c.args.ll.src c.args.ll.dst c.args.c.at c.args.size _ c.header.ensures) _ c.in-Refused.is, tt)
+pub returns : goal.returns
+returns c = (
+  walk-answered c.args.contexts.now c.args.ll.src c.args.ll.dst c.args.size c.args.frame.now c.args.c.at c.if-frame-gt127.false c.args.room.now _ _ (from-outer c.args.contexts.now c.args.frame.now c.args.room.now _ c.args.ll.src c.args.ll.dst c.args.c.at c.args.size _ c.in_ok-end.ensures),
+  walk-written c.args.contexts.now c.args.ll.src c.args.ll.dst c.args.size c.args.frame.now c.args.c.at c.if-frame-gt127.false c.args.room.now _ _ (from-outer c.args.contexts.now c.args.frame.now c.args.room.now _ c.args.ll.src c.args.ll.dst c.args.c.at c.args.size _ c.in_ok-end.ensures) _ c.put_elided.ensures,
+)

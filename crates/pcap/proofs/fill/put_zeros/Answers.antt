@@ -1,29 +1,13 @@
-use Rattle.pcap.proofs.Filling.{zeros-start, zeros-step, zeros-done}
-use lib.ListN.{length-set}
-use mathlib.Core.Path.{refl, sym, ◌∙◌}
+use Prim.Native.Nat.{◌+◌, ◌-◌}
+use mathlib.Core.Path.{◌≡◌, ap, ◌∙◌}
 use native.Mathlib.Omega.{arith}
+use lib.ListN.{length, take, drop, replicate, length-replicate, length-take, length-drop}
+use Rattle.pcap.proofs.Carrying.{put-mid}
 use Rattle.pcap.proofs.fill.put_zeros.Goals as goal
 
-pub loop-i-init : goal.loop-i-init
-loop-i-init c = (omega arith, (refl, zeros-start c.args.n c.args.at c.args.buf.now))
-
-pub overflow_add-buf : goal.overflow_add-buf
-overflow_add-buf c = omega arith
-
-pub bounds-buf-at : goal.bounds-buf-at
-bounds-buf-at c = omega arith
-
-pub overflow_add-i : goal.overflow_add-i
-overflow_add-i c = omega arith
-
-pub loop-i-smaller : goal.loop-i-smaller
-loop-i-smaller c = omega arith
-
-pub loop-i-preserved : goal.loop-i-preserved
-loop-i-preserved c = (omega arith, (rw length-set c.loop-i.invariant.1.0, sym (zeros-step c.args.n c.loop-i.i c.args.at c.loop-i.buf c.loop-i-test.true) ∙ c.loop-i.invariant.1.1))
-
-pub shape_of-buf : goal.shape_of-buf
-shape_of-buf c = omega arith
-
 pub returns : goal.returns
-returns c = sym (zeros-done c.args.n c.loop-i.i c.args.at c.loop-i.buf c.loop-i-test.false) ∙ c.loop-i.invariant.1.1
+returns c =
+    let a = c.args in
+    let k = a.at + a.n - a.at in
+    let e : length (take k (drop a.at a.buf.now)) ≡ a.n = omega (arith, length-take k (drop a.at a.buf.now), length-drop a.at a.buf.now) in
+    put-mid a.at a.n (replicate a.n 0) _ a.buf.now (length-replicate a.n 0) c.requires (c.fill.ensures.after (λ y p. p) ∙ ap (λ i. replicate i 0) e)

@@ -1,9 +1,6 @@
-use Rattle.capture.proofs.Unique.{told-good, told-bad}
-use mathlib.Core.Path.{sym}
+use mathlib.Core.Path.{◌∙◌}
+use Rattle.pcap.proofs.Carrying.{judged-good}
 use Rattle.pcap.proofs.going.is_good.Goals as goal
 
-pub returns-in-Good : goal.returns-in-Good
-returns-in-Good c = sym (told-good _ _ _ c.judge.ensures _ c.in-Good.is).0
-
-pub returns-in-Refused : goal.returns-in-Refused
-returns-in-Refused c = sym (told-bad _ _ _ c.judge.ensures _ c.in-Refused.is)
+pub returns : goal.returns
+returns c = c.is_ok.ensures.value ∙ judged-good c.judge.result _ _ c.judge.ensures

@@ -1,8 +1,8 @@
 use Rattle.reassembly.proofs.Parts.{hands-good, hands-bad}
 use Rattle.reassembly.proofs.part.hand_out.Goals as goal
 
-pub returns-then-is_right : goal.returns-then-is_right
-returns-then-is_right c = hands-good c.args.sum c.args.size c.args.room.now c.args.out.now _ _ _ c.is_right.ensures c.if-is_right.true c.requires.1 c.requires.2 c.put_slice.ensures c.put_checksum.ensures
-
 pub returns : goal.returns
-returns c = hands-bad c.args.sum c.args.size c.args.room.now c.args.out.now _ c.is_right.ensures c.if-is_right.false c.requires.1
+returns c = hands-good c.args.sum c.args.size c.args.room.now c.args.out.now _ _ _ c.is_right.ensures c.if-not-is_right.false c.requires.1 c.requires.2 c.put_slice.ensures c.put_checksum.ensures
+
+pub returns-then-not-is_right : goal.returns-then-not-is_right
+returns-then-not-is_right c = hands-bad c.args.sum c.args.size c.args.room.now c.args.out.now _ c.is_right.ensures c.if-not-is_right.true c.requires.1

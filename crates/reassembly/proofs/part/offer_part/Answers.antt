@@ -11,7 +11,7 @@ returns-then-is_repeat c =
 pub returns-then-is_touching : goal.returns-then-is_touching
 returns-then-is_touching c =
     let a = c.args in
-    does-clash a.s a.room.now (with_bytes a.part a.bytes.now) c.free-slot.result a.out.now (sym c.is_repeat.ensures ∙ c.if-is_repeat.false) (sym c.is_touching.ensures ∙ c.if-is_touching.true) c.free-slot.ensures
+    does-clash a.s a.room.now (with_bytes a.part a.bytes.now) c.free.result a.out.now (sym c.is_repeat.ensures ∙ c.if-is_repeat.false) (sym c.is_touching.ensures ∙ c.if-is_touching.true) c.free.ensures
 
 pub returns : goal.returns
 returns c =

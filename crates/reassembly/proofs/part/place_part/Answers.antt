@@ -13,9 +13,9 @@ pub is_full-requires : goal.is_full-requires
 unfolding taken_in
 is_full-requires c = rw c.with_part-slot.ensures c.requires.small
 
-pub hand_out-outcome-requires : goal.hand_out-outcome-requires
+pub hand_out-requires : goal.hand_out-requires
 unfolding taken_in
-hand_out-outcome-requires c =
+hand_out-requires c =
     let a = c.args in
     let g = c.requires in
     let z : c.with_part-slot.result.key.size ≡ a.s.key.size = rw c.with_part-slot.ensures in
@@ -29,7 +29,7 @@ pub returns-then-is_full : goal.returns-then-is_full
 returns-then-is_full c =
     let a = c.args in
     let eb : c.put_slice.new.buf ≡ put (a.part.offset.0 * 8) a.bytes.now a.room.now = rw c.bytes.ensures at (rest-told a.bytes.now a.room.now _ c.bytes.result 0 c.put_slice.ensures) in
-    does-full a.s a.room.now (with_bytes a.part a.bytes.now) c.hand_out-outcome.result c.with_part-slot.result c.free-slot.result c.put_slice.new.buf a.out.now _ eb c.with_part-slot.ensures (sym c.is_full.ensures ∙ c.if-is_full.true) c.free-slot.ensures c.hand_out-outcome.ensures
+    does-full a.s a.room.now (with_bytes a.part a.bytes.now) c.hand_out.result c.with_part-slot.result c.free.result c.put_slice.new.buf a.out.now _ eb c.with_part-slot.ensures (sym c.is_full.ensures ∙ c.if-is_full.true) c.free.ensures c.hand_out.ensures
 
 pub returns : goal.returns
 returns c =

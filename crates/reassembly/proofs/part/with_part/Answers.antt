@@ -12,5 +12,5 @@ returns c =
     let a = c.args in
     let u = a.part.offset.0 in
     let n : u + b.units_of.result - u ≡ units a.n = omega (arith, b.units_of.ensures.0) in
-    let x : b.mark-c.result ≡ pack (fill u (units a.n) (unpack a.s.covered)) = rw n at b.mark-c.ensures in
-    rw (x, c.mark_one-b.ensures, c.remembered-m.ensures)
+    let x : b.mark.result ≡ pack (fill u (units a.n) (unpack a.s.covered)) = rw n at b.mark.ensures in
+    rw (x, c.mark_one.ensures, c.remembered.ensures)

@@ -1,12 +1,9 @@
-use Prim.Native.Nat.{◌≤◌, ◌+◌, ◌-◌}
+use Prim.Native.Nat.{◌≤◌, ◌+◌}
 use mathlib.Core.Path.{◌≡◌}
-use lib.ListN.{drop, take}
+use lib.ListN.{drop}
 use Rattle.reassembly.specs.Lists.{count}
 use Rattle.reassembly.specs.Slots.{same_source}
 use Rattle.reassembly.proofs.table.count_seats.Given as goal
 
 abbrev pub invariant-loop-i : goal.invariant-loop-i
-invariant-loop-i l = (l.i ≤ l.size) × (l.n ≤ l.i) × (count (same_source l.g) (take l.size l.seats) ≡ l.n + count (same_source l.g) (drop l.i (take l.size l.seats)))
-
-abbrev pub decreases-loop-i : goal.decreases-loop-i
-decreases-loop-i l = l.size - l.i
+invariant-loop-i l = (l.n ≤ l.i) × (count (same_source l.g) l.seats ≡ l.n + count (same_source l.g) (drop l.i l.seats))

@@ -2,8 +2,5 @@ use Rattle.std.proofs.Common.{◌≡◌, ◌+◌, ◌-◌, ◌≤◌, false, len
 use Rattle.text.specs.Bytes.{index_of}
 use Rattle.text.proofs.line.holds.Given as goal
 
-abbrev pub invariant-loop-i : goal.invariant-loop-i
-invariant-loop-i l = (l.i ≤ length l.s) × (l.found ≡ false → index_of l.b l.s ≡ l.i + index_of l.b (drop l.i l.s))
-
-abbrev pub decreases-loop-i : goal.decreases-loop-i
-decreases-loop-i l = length l.s - l.i
+abbrev pub invariant-loop-x : goal.invariant-loop-x
+invariant-loop-x l = (l.x-index ≤ length l.s) × (l.found ≡ false → index_of l.b l.s ≡ l.x-index + index_of l.b (drop l.x-index l.s))

@@ -5,6 +5,3 @@ use Rattle.text.proofs.print.bytes.Given as goal
 
 abbrev pub invariant-loop-i : goal.invariant-loop-i
 invariant-loop-i l = (length l.out ≡ length l.initial.out) × (l.i ≤ length l.s) × (l.at + length l.s * 2 ≤ length l.initial.out) × (put (l.at + l.i * 2) (hex_bytes (drop l.i l.s)) l.out ≡ put l.at (hex_bytes l.s) l.initial.out)
-
-abbrev pub decreases-loop-i : goal.decreases-loop-i
-decreases-loop-i l = length l.s - l.i

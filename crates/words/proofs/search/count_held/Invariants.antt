@@ -1,4 +1,4 @@
-use Prim.Native.Nat.{◌≤◌, ◌+◌, ◌-◌}
+use Prim.Native.Nat.{◌≤◌, ◌+◌}
 use mathlib.Core.Path.{◌≡◌}
 use lib.ListN.{drop}
 use Rattle.reassembly.specs.Lists.{count}
@@ -7,7 +7,4 @@ use Rattle.words.specs.Words.{table_in}
 use Rattle.words.proofs.search.count_held.Given as goal
 
 abbrev pub invariant-loop-i : goal.invariant-loop-i
-invariant-loop-i l = (l.i ≤ 8) × (l.n ≤ l.i) × (count (is_of l.g) (table_in l.t).slots ≡ l.n + count (is_of l.g) (drop l.i (table_in l.t).slots))
-
-abbrev pub decreases-loop-i : goal.decreases-loop-i
-decreases-loop-i l = 8 - l.i
+invariant-loop-i l = (l.n ≤ l.i) × (count (is_of l.g) (table_in l.t).slots ≡ l.n + count (is_of l.g) (drop l.i (table_in l.t).slots))

@@ -1,20 +1,14 @@
-use native.Mathlib.Omega.{arith}
-use mathlib.Core.Path.{sym, ◌∙◌}
+use Rattle.std.proofs.Common.{rules, ◌≡◌, true, false, get_or}
+use Rattle.std.proofs.lemmas.Iterator.{first_from_Range}
 use Rattle.reassembly.specs.Slots.{free_slot, is_key}
 use Rattle.words.specs.Words.{table_in}
 use Rattle.words.proofs.Numbers.{slots-eight}
-use Rattle.words.proofs.Loops.{found_here, found-later, found_nowhere}
-use borrow.Author.Rules.{rules}
+use Rattle.words.proofs.Chains.{find-first}
 use Rattle.words.proofs.search.find.Goals as goal
 
-pub loop-i-init : goal.loop-i-init
-loop-i-init c = (search rules, omega arith)
-
-pub returns-then-has_key : goal.returns-then-has_key
-returns-then-has_key c = found_here (is_key c.args.key) (table_in c.args.t.now).slots free_slot 8 c.loop-i.i (slots-eight c.args.t.now) c.loop-i.invariant.1 c.loop-i-test.true (sym c.has_key.ensures ∙ c.if-has_key.true)
-
-pub loop-i-preserved : goal.loop-i-preserved
-loop-i-preserved c = (search rules, found-later (is_key c.args.key) (table_in c.args.t.now).slots free_slot 8 c.loop-i.i (slots-eight c.args.t.now) c.loop-i.invariant.1 c.loop-i-test.true (sym c.has_key.ensures ∙ c.if-has_key.false))
-
 pub returns : goal.returns
-returns c = found_nowhere (is_key c.args.key) (table_in c.args.t.now).slots free_slot 8 c.loop-i.i (slots-eight c.args.t.now) c.loop-i.invariant.1 c.loop-i.invariant.0 c.loop-i-test.false
+returns c =
+    let l = (table_in c.args.t.now).slots in
+    let f = is_key c.args.key in
+    find-first f free_slot l (slots-eight c.args.t.now) _
+    (first_from_Range _ _ _ _ (λ i. f (get_or l i free_slot) ≡ true) (λ i. f (get_or l i free_slot) ≡ false) c.find.ensures.ran (λ x q k. search rules) (λ x q k. search rules))

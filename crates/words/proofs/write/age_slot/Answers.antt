@@ -1,12 +1,9 @@
 use mathlib.Core.Path.{◌∙◌}
-use Rattle.words.proofs.Ages.{age-free, age-young, age-old}
+use Rattle.words.proofs.Ages.{age-young, age-old}
 use Rattle.words.proofs.write.age_slot.Goals as goal
 
 pub returns-then-is_expired : goal.returns-then-is_expired
-returns-then-is_expired c = c.put_slot.ensures ∙ age-old c.args.t.now c.args.i c.requires c.args.time c.is_expired.result c.if-t-k-eq1.true c.is_expired.ensures c.if-is_expired.true c.free.result c.free.ensures
+returns-then-is_expired c = c.put_slot.ensures ∙ age-old c.args.t.now c.args.i c.requires c.args.time c.is_expired.result c.is_expired.ensures c.if-is_expired.true c.free.result c.free.ensures
 
 pub returns-else-is_expired : goal.returns-else-is_expired
-returns-else-is_expired c = age-young c.args.t.now c.args.i c.requires c.args.time c.is_expired.result c.if-t-k-eq1.true c.is_expired.ensures c.if-is_expired.false
-
-pub returns-else-t-k-eq1 : goal.returns-else-t-k-eq1
-returns-else-t-k-eq1 c = age-free c.args.t.now c.args.i c.requires c.args.time c.if-t-k-eq1.false
+returns-else-is_expired c = age-young c.args.t.now c.args.i c.requires c.args.time c.is_expired.result c.is_expired.ensures c.if-is_expired.false

@@ -1,8 +1,12 @@
+use Rattle.std.proofs.lemmas.Result.{err_from_is_err_and}
 use Rattle.reassembly.proofs.Fresh.{begins-accepted, begins-refused}
+use Rattle.words.specs.Words.{table_in}
 use Rattle.words.proofs.write.begin.Goals as goal
 
-pub returns-in-Accepted : goal.returns-in-Accepted
-returns-in-Accepted c = begins-accepted c.args.count c.args.gateways _ _ c.seat-s.ensures _ c.in-Accepted.is _ c.sit.ensures
+pub returns-in_err-seat : goal.returns-in_err-seat
+returns-in_err-seat c =
+    let p = err_from_is_err_and c.from_residual.result c.from_residual.ensures.1 in
+    rw (p.1, p.2) (begins-refused c.args.count c.args.gateways (table_in c.args.t.now) _ c.in_err-seat.ensures)
 
-pub returns-in-Refused : goal.returns-in-Refused
-returns-in-Refused c = begins-refused c.args.count c.args.gateways _ _ c.seat-s.ensures _ _ c.in-Refused.is
+pub returns : goal.returns
+returns c = begins-accepted c.args.count c.args.gateways (table_in c.args.t.now) _ c.in_ok-seat.ensures _ c.sit.ensures

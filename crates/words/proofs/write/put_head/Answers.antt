@@ -8,5 +8,5 @@ use Rattle.words.proofs.write.put_head.Goals as goal
 pub returns : goal.returns
 unfolding head_words
 returns c = let s = c.args.s in
-    stored-put c.args.k (s.key.dst.kind ∷ s.key.dst.number ∷ c.pack-w.result ∷ s.since ∷ []) c.args.t.now
-    ∙ ap (λ w. put c.args.k (s.key.dst.kind ∷ s.key.dst.number ∷ w ∷ s.since ∷ []) c.args.t.now) c.pack-w.ensures
+    stored-put c.args.k (s.key.dst.kind ∷ s.key.dst.number ∷ c.pack.result ∷ s.since ∷ []) c.args.t.now
+    ∙ ap (λ w. put c.args.k (s.key.dst.kind ∷ s.key.dst.number ∷ w ∷ s.since ∷ []) c.args.t.now) c.pack.ensures

@@ -3,10 +3,6 @@ use Rattle.ieee802154.proofs.WriteSteps.{more-front, length-bytes}
 use Rattle.ieee802154.specs.Mac.{bytes_of}
 use Rattle.ieee802154.proofs.header.Repr.emit.Goals as goal
 
-pub returns-then-buf-n : goal.returns-then-buf-n
-unfolding bytes_of
-returns-then-buf-n c = search puts
-
 pub returns : goal.returns
 unfolding bytes_of
 returns c = (search puts, search (puts, written_over, length-bytes, more-front))

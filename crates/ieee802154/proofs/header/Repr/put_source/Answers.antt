@@ -6,10 +6,6 @@ pub returns-then-buf-at : goal.returns-then-buf-at
 unfolding source_bytes
 returns-then-buf-at c = search (puts, told)
 
-pub returns-then-compressed : goal.returns-then-compressed
-unfolding source_bytes
-returns-then-compressed c = search (puts, told)
-
 pub returns : goal.returns
 unfolding source_bytes
 returns c = search (puts, told)

@@ -1,8 +1,0 @@
-use Rattle.std.proofs.Common.{length, ◌≡◌}
-use Rattle.chunks.proofs.run.Given as goal
-
-abbrev pub invariant-loop-steps : goal.invariant-loop-steps
-invariant-loop-steps g l = (length l.read ≡ length l.initial.read) × (length l.scratch ≡ length l.initial.scratch) × (length l.out ≡ length l.initial.out)
-
-abbrev pub decreases-loop-steps : goal.decreases-loop-steps
-decreases-loop-steps g l = l.steps
