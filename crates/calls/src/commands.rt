@@ -1,4 +1,6 @@
 // What the lines do.
+ghost use Rattle.std.specs.Prelude.{◌≡◌, IfNone};
+
 use super::{answer, fields};
 use ieee802154::Address;
 use reassembly::Gateway;
@@ -50,7 +52,9 @@ impl Session {
     }
 
     // `gateways GATEWAY GATEWAY ..`: the table is made.
-    fn begin(&mut self, fields: Fields<'_>, out: &mut Out) -> Option<()> {
+    fn begin(&mut self, fields: Fields<'_>, out: &mut Out) -> Option<()>
+        ensures { IfNone result (out.new ≡ out.old) }
+    {
         let (all, count) = gateways(fields)?;
         if self.table.is_some() {
             return None;
@@ -68,7 +72,9 @@ impl Session {
 
     // `call TIME FRAME CONTEXTS MEMLEN OUTLEN`: so much of the memory and of the output is lent as the line says. The
     // frame stands at the front of the scratch room, and the contexts behind it.
-    fn call(&mut self, mut fields: Fields<'_>, out: &mut Out) -> Option<()> {
+    fn call(&mut self, mut fields: Fields<'_>, out: &mut Out) -> Option<()>
+        ensures { IfNone result (out.new ≡ out.old) }
+    {
         let time = fields.decimal()?;
         let n = fields.bytes(&mut self.scratch)?;
         let m = fields.bytes(self.scratch.get_mut(n..)?)?;

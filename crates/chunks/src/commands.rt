@@ -1,4 +1,6 @@
 // What the lines do.
+ghost use Rattle.std.specs.Prelude.{◌≡◌, IfNone};
+
 use super::answer;
 use feed::{Fed, Reader, chunk, end};
 use text::field::{Fields, upto};
@@ -30,7 +32,9 @@ impl Session {
     }
 
     // `chunk HEX`: the bytes go to the reader.
-    fn take(&mut self, mut fields: Fields<'_>, out: &mut Out) -> Option<()> {
+    fn take(&mut self, mut fields: Fields<'_>, out: &mut Out) -> Option<()>
+        ensures { IfNone result (out.new ≡ out.old) }
+    {
         let n = fields.last_bytes(&mut self.scratch)?;
         fields.end()?;
         let fed = chunk(self.reader, upto(&self.scratch, n));

@@ -1,4 +1,6 @@
 // What the lines do.
+ghost use Rattle.std.specs.Prelude.{◌≡◌, IfNone};
+
 use super::fields;
 use super::room::{MOST, fill, is_filled};
 use cutting::{Link, frame, frames};
@@ -49,7 +51,9 @@ impl Session {
     }
 
     // `cut PAN SRC DST SEQ TAG LIMIT K ROOM DATAGRAM`.
-    fn cut(&mut self, mut fields: Fields<'_>, out: &mut Out) -> Option<()> {
+    fn cut(&mut self, mut fields: Fields<'_>, out: &mut Out) -> Option<()>
+        ensures { IfNone result (out.new ≡ out.old) }
+    {
         let link = fields::link(&mut fields)?;
         let k = fields.decimal()?;
         let n = fields.decimal()? as usize;
@@ -68,7 +72,9 @@ impl Session {
     }
 
     // `frames PAN SRC DST SEQ TAG LIMIT DATAGRAM`.
-    fn count(&mut self, mut fields: Fields<'_>, out: &mut Out) -> Option<()> {
+    fn count(&mut self, mut fields: Fields<'_>, out: &mut Out) -> Option<()>
+        ensures { IfNone result (out.new ≡ out.old) }
+    {
         let link = fields::link(&mut fields)?;
         let len = fields.last_bytes(&mut self.datagram)?;
         fields.end()?;

@@ -7,7 +7,7 @@ use native.Mathlib.Omega.{arith}
 use mathlib.Core.Path.{◌≡◌, refl, sym, ap, ◌∙◌}
 use mathlib.Core.List.{List, [], ◌∷◌}
 use lib.Dec.{ltb}
-use lib.ListN.{length, length-append}
+use lib.ListN.{length, take, drop, length-append}
 use borrow.Author.Tests.{le-leb, lt-leb, lt-ltb, le-ltb}
 use Rattle.octets.specs.Read.{is, refused, Read, got, and_then, choose}
 use Rattle.octets.specs.Refusal.{number_of}
@@ -18,8 +18,9 @@ use Rattle.capture.specs.Block.{Timed}
 use Rattle.capture.specs.Made.{block_of, Bytes}
 use Rattle.pcap.specs.Frames.{blocks_from, frame_field, frames_field, most_frames, head, frames_of_pcap}
 use Rattle.pcap.specs.Moves.{from_pcap, lengthed, counted}
-use Rattle.pcap.specs.Answers.{of_frame}
-use Rattle.pcap.specs.declared.read.TimedFrame.{TimedFrame}
+use Rattle.pcap.specs.Answers.{of_frame_at}
+use Rattle.pcap.specs.declared.read.FrameAt.{FrameAt}
+use Rattle.pcap.proofs.Back.{frame_back}
 use Rattle.pcap.proofs.Blocks.{Each, block-length, tail-each, first-each}
 
 -- ---- one frame more
@@ -62,18 +63,24 @@ count_most n k s j at h =
     sym (ap (λ i. and_then (frames_field i (k + j) s at) (λ p. is (j + length p.value))) e ∙ ap is (add-zero j))
 
 -- from what calls told; number is that of the frame
-module _ (n k : ℕ) (s : List ℕ) (j at : ℕ) (l : j < n) (h : at < length s) (y : Result (TimedFrame × Cursor) Refusal) (p : of_frame y ≡ frame_field s at) where
-  frame_is : (x : Result (TimedFrame × Cursor) Refusal) → y ≡ x → frame_field s at ≡ of_frame x
-  frame_is x q = sym p ∙ ap of_frame q
+module _ (n k : ℕ) (s : List ℕ) (j at : ℕ) (l : j < n) (h : at < length s) (y : Result FrameAt Refusal) (p : of_frame_at s y ≡ frame_field s at) where
+  frame_is : (x : Result FrameAt Refusal) → y ≡ x → frame_field s at ≡ of_frame_at s x
+  frame_is x q = sym p ∙ ap (of_frame_at s) q
 
-  pub told-turn : (number : ℕ) → number ≡ k + j → (f : TimedFrame × Cursor) → y ≡ Ok f → number < most_frames → counted n k s (j + 1) f.1.at ≡ counted n k s j at
-  told-turn number e f q u = count_turn n k s j at l h _ f.1.at (frame_is (Ok f) q) (omega arith)
+  pub told-turn : (number : ℕ) → number ≡ k + j → (f : FrameAt) → y ≡ Ok f → number < most_frames → counted n k s (j + 1) (f.start.at + f.len) ≡ counted n k s j at
+  told-turn number e f q u = count_turn n k s j at l h _ (f.start.at + f.len) (frame_is (Ok f) q) (omega arith)
 
-  pub told-full : (number : ℕ) → number ≡ k + j → (f : TimedFrame × Cursor) → y ≡ Ok f → most_frames ≤ number → refused 18 ≡ counted n k s j at
-  told-full number e f q u = count-full n k s j at l h _ f.1.at (frame_is (Ok f) q) (omega arith)
+  pub told-full : (number : ℕ) → number ≡ k + j → (f : FrameAt) → y ≡ Ok f → most_frames ≤ number → refused 18 ≡ counted n k s j at
+  told-full number e f q u = count-full n k s j at l h _ (f.start.at + f.len) (frame_is (Ok f) q) (omega arith)
 
   pub told-stop : (e : Refusal) → y ≡ Err e → refused (number_of e) ≡ counted n k s j at
   told-stop e q = count-stop n k s j at l h (number_of e) (frame_is (Err e) q)
+
+  pub told-on : Bytes s → (f : FrameAt) → y ≡ Ok f → f.start.at + f.len ≤ length s
+  told-on b f q =
+      let g : at ≤ length s = omega arith in
+      let t : Timed = record { time = f.time; frame = take f.len (drop f.start.at s) } in
+      (frame_back s at t (f.start.at + f.len) b g (frame_is (Ok f) q)).stands.1.1
 
 -- ---- the length of blocks
 pub blocks-length : (fs : List Timed) (b : ℕ) → Each fs → length (blocks_from b fs) ≡ 512 * ((length fs + 2) / 3)

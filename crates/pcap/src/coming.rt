@@ -5,7 +5,7 @@ ghost use Rattle.pcap.specs.Moves.{from_pcap, sized, placed, counted};
 ghost use Rattle.pcap.specs.Streaming.{Comes};
 
 use super::fill::{put_block, put_blocks};
-use super::read::{frame, head};
+use super::read::{frame_at, head};
 use capture::block::BLOCK;
 use octets::cursor::Cursor;
 use octets::refusal::Refusal;
@@ -23,11 +23,11 @@ fn count(s: &[u8], c: Cursor, k: u64, most: usize) -> Result<usize, Refusal>
         if s.len() <= at {
             return Ok(n);
         }
-        let (_, next) = frame(s, Cursor { at })?;
+        let f = frame_at(s, Cursor { at })?;
         if MOST <= number {
             return Err(Refusal::NotHeld);
         }
-        at = next.at;
+        at = f.start.at + f.len;
         number += 1;
     }
     Ok(most)

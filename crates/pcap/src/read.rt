@@ -5,7 +5,7 @@ ghost use Rattle.octets.specs.Read.{got, refused, and_then, choose};
 ghost use Rattle.octets.specs.Refusal.{number_of};
 ghost use Rattle.pcap.specs.Frames.{limits, zone, version, head, whole_time, time_field, same_field};
 ghost use Rattle.pcap.specs.Frames.{length_field, framed, frame_field};
-ghost use Rattle.pcap.specs.Answers.{of_frame};
+ghost use Rattle.pcap.specs.Answers.{of_frame, of_frame_at};
 
 use octets::cursor::{Cursor, Read};
 use octets::refusal::Refusal;
@@ -16,6 +16,14 @@ const SECOND: u64 = 1000;
 
 // The microseconds of a millisecond.
 const MILLISECOND: u32 = 1000;
+
+// Where a frame lies: its time, where its bytes begin, and how many they are. Nothing stays lent for it.
+#[derive(Clone, Copy)]
+pub struct FrameAt {
+    pub time: u32,
+    pub start: Cursor,
+    pub len: usize,
+}
 
 // A frame: its time, and its bytes, which are a part of those that were lent.
 #[derive(Clone, Copy)]
@@ -131,6 +139,28 @@ fn framed(s: &[u8], time: u32, c: Cursor, n: usize) -> Read<TimedFrame<'_>>
         },
         d,
     ))
+}
+
+#[tactic(auto, unfolding(crate::specs::Frames::framed, crate::specs::Frames::bytes_field, octets::specs::Read::skip))]
+fn framed_at(s: &[u8], time: u32, c: Cursor, n: usize) -> Result<FrameAt, Refusal>
+    ensures { of_frame_at s.now result ≡ framed time n s.now c.at }
+{
+    c.skip(s, n)?;
+    Ok(FrameAt {
+        time,
+        start: c,
+        len: n,
+    })
+}
+
+// Where a frame lies, with what stands before it read.
+#[tactic(auto, unfolding(crate::specs::Frames::frame_field))]
+pub fn frame_at(s: &[u8], c: Cursor) -> Result<FrameAt, Refusal>
+    ensures { of_frame_at s.now result ≡ frame_field s.now c.at }
+{
+    let (t, d) = time(s, c)?;
+    let (n, f) = frame_len(s, d)?;
+    framed_at(s, t, f, n as usize)
 }
 
 // A frame with what stands before it.

@@ -1,4 +1,5 @@
 pub mod Marked
+pub mod Addresses
 pub mod Keys
 pub mod Filling
 pub mod Engine

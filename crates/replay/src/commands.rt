@@ -1,4 +1,6 @@
 // The commands, by name.
+ghost use Rattle.std.specs.Prelude.{◌≡◌, IfNone};
+
 use super::{compressed, fragment, mac, nhc, relays};
 use text::field::{Fields, upto};
 use text::input::{Answers, ROOM};
@@ -24,6 +26,7 @@ impl Session {
         parse: F,
     ) -> Option<()>
         requires { F.IsAlwaysCallable parse }
+        ensures { IfNone result (out.new ≡ out.old) }
     {
         let n = fields.last_bytes(&mut self.scratch)?;
         fields.end()?;
@@ -35,6 +38,10 @@ impl Session {
 impl Answers for Session {
     // 512 bytes in hexadecimal and a few words, with room to spare.
     const LONGEST: usize = 4096;
+
+    const READS_ON: bool = false;
+
+    const STOPS_AT_ONCE: bool = false;
 
     fn answer(&mut self, name: &[u8], fields: Fields<'_>, out: &mut Out) -> Option<()> {
         // By name and in no table of functions: the commands are of three shapes, so a table would hold closures.

@@ -1,4 +1,6 @@
 // iphc.parse and iphc.emit.
+ghost use Rattle.std.specs.Prelude.{◌≡◌, IfNone};
+
 use super::{answer, fields, room};
 use iphc::Repr;
 use text::field::{Fields, part, upto};
@@ -19,7 +21,9 @@ fn put_header(out: &mut Out, r: Repr, len: usize) {
 
 // The contexts go behind the header's bytes, so that one room serves both.
 // As each `parse` of this program: the types have no common trait, and a closure for each would be as long.
-pub fn parse(mut fields: Fields<'_>, scratch: &mut [u8], out: &mut Out) -> Option<()> {
+pub fn parse(mut fields: Fields<'_>, scratch: &mut [u8], out: &mut Out) -> Option<()>
+    ensures { IfNone result (out.new ≡ out.old) }
+{
     let n = fields.bytes(scratch)?;
     let src = fields::link(&mut fields)?;
     let dst = fields::link(&mut fields)?;
@@ -56,7 +60,9 @@ fn repr(fields: &mut Fields<'_>) -> Option<Repr> {
 }
 
 // As each `emit` of this program: the types have no common trait, and a closure for each would be as long.
-pub fn emit(mut fields: Fields<'_>, scratch: &mut [u8], out: &mut Out) -> Option<()> {
+pub fn emit(mut fields: Fields<'_>, scratch: &mut [u8], out: &mut Out) -> Option<()>
+    ensures { IfNone result (out.new ≡ out.old) }
+{
     let r = repr(&mut fields)?;
     let len = r.buffer_len();
     let room = room::made(&mut fields, len, scratch)?;

@@ -15,12 +15,15 @@ pub fn word(fields: &mut Fields<'_>) -> Option<u16> {
     Some((fields.number(4)? % 0x1_0000) as u16)
 }
 
+// By its one letter, and no word that is looked for to its end: a MAC header has four of them.
 pub fn flag(fields: &mut Fields<'_>) -> Option<bool> {
-    match fields.word()? {
-        b"0" => Some(false),
-        b"1" => Some(true),
-        _ => None,
-    }
+    let x = match fields.letter()? {
+        b'0' => false,
+        b'1' => true,
+        _ => return None,
+    };
+    fields.close()?;
+    Some(x)
 }
 
 // Whether the field is `-`, and then what is behind it.

@@ -1,4 +1,6 @@
 // dispatch, frag.parse, frag.emit and key.
+ghost use Rattle.std.specs.Prelude.{◌≡◌, IfNone};
+
 use super::{answer, fields, room};
 use ieee802154;
 use ieee802154::{Address, FrameType, FrameVersion};
@@ -48,7 +50,9 @@ fn repr(fields: &mut Fields<'_>) -> Option<Repr> {
 }
 
 // As each `emit` of this program: the types have no common trait, and a closure for each would be as long.
-pub fn emit(mut fields: Fields<'_>, scratch: &mut [u8], out: &mut Out) -> Option<()> {
+pub fn emit(mut fields: Fields<'_>, scratch: &mut [u8], out: &mut Out) -> Option<()>
+    ensures { IfNone result (out.new ≡ out.old) }
+{
     let r = repr(&mut fields)?;
     let len = r.buffer_len();
     let room = room::made(&mut fields, len, scratch)?;
@@ -82,7 +86,9 @@ fn put_key(out: &mut Out, k: Key) {
     answer::word(out, k.datagram_tag);
 }
 
-pub fn key(mut fields: Fields<'_>, out: &mut Out) -> Option<()> {
+pub fn key(mut fields: Fields<'_>, out: &mut Out) -> Option<()>
+    ensures { IfNone result (out.new ≡ out.old) }
+{
     let src = fields::link(&mut fields)?;
     let dst = fields::link(&mut fields)?;
     let r = repr(&mut fields)?;

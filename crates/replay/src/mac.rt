@@ -1,4 +1,6 @@
 // mac.parse, mac.emit, addr.from and addr.info.
+ghost use Rattle.std.specs.Prelude.{◌≡◌, IfNone};
+
 use super::{answer, fields, room};
 use ieee802154::{Address, FrameType, FrameVersion, Repr};
 use text::field::{Fields, upto};
@@ -60,7 +62,9 @@ fn repr(fields: &mut Fields<'_>) -> Option<Repr> {
 }
 
 // As each `emit` of this program: the types have no common trait, and a closure for each would be as long.
-pub fn emit(mut fields: Fields<'_>, scratch: &mut [u8], out: &mut Out) -> Option<()> {
+pub fn emit(mut fields: Fields<'_>, scratch: &mut [u8], out: &mut Out) -> Option<()>
+    ensures { IfNone result (out.new ≡ out.old) }
+{
     let r = repr(&mut fields)?;
     let len = r.buffer_len();
     let room = room::made(&mut fields, len, scratch)?;
@@ -101,7 +105,9 @@ fn put_info(out: &mut Out, x: Address) {
     answer::optional(out, x.as_link_local_address(), answer::ipv6);
 }
 
-pub fn info(mut fields: Fields<'_>, out: &mut Out) -> Option<()> {
+pub fn info(mut fields: Fields<'_>, out: &mut Out) -> Option<()>
+    ensures { IfNone result (out.new ≡ out.old) }
+{
     let x = fields::link(&mut fields)?;
     fields.end()?;
     put_info(out, x?);

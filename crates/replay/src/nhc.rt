@@ -1,4 +1,6 @@
 // nhc.dispatch, ext.parse, ext.emit, udp.parse and udp.emit.
+ghost use Rattle.std.specs.Prelude.{◌≡◌, IfNone};
+
 use super::{answer, fields, room};
 use sixlowpan::IpProtocol;
 use sixlowpan::nhc::{ExtHeaderId, ExtHeaderRepr, NhcPacket, UdpNhcRepr};
@@ -42,7 +44,9 @@ fn ext(fields: &mut Fields<'_>) -> Option<ExtHeaderRepr> {
 }
 
 // As each `emit` of this program: the types have no common trait, and a closure for each would be as long.
-pub fn ext_emit(mut fields: Fields<'_>, scratch: &mut [u8], out: &mut Out) -> Option<()> {
+pub fn ext_emit(mut fields: Fields<'_>, scratch: &mut [u8], out: &mut Out) -> Option<()>
+    ensures { IfNone result (out.new ≡ out.old) }
+{
     let r = ext(&mut fields)?;
     let len = r.buffer_len();
     let room = room::made(&mut fields, len, scratch)?;
@@ -78,7 +82,9 @@ fn udp(fields: &mut Fields<'_>) -> Option<UdpNhcRepr> {
 }
 
 // As each `emit` of this program: the types have no common trait, and a closure for each would be as long.
-pub fn udp_emit(mut fields: Fields<'_>, scratch: &mut [u8], out: &mut Out) -> Option<()> {
+pub fn udp_emit(mut fields: Fields<'_>, scratch: &mut [u8], out: &mut Out) -> Option<()>
+    ensures { IfNone result (out.new ≡ out.old) }
+{
     let r = udp(&mut fields)?;
     let len = r.buffer_len();
     let room = room::made(&mut fields, len, scratch)?;

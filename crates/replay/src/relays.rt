@@ -1,4 +1,6 @@
 // relay.parse and relay.emit.
+ghost use Rattle.std.specs.Prelude.{◌≡◌, IfNone};
+
 use super::{answer, fields, room};
 use octets::cursor::Cursor;
 use relay::{Mesh, Relay};
@@ -46,7 +48,9 @@ fn mesh(fields: &mut Fields<'_>) -> Option<Option<Mesh>> {
 }
 
 // As each `emit` of this program: the types have no common trait, and a closure for each would be as long.
-pub fn emit(mut fields: Fields<'_>, scratch: &mut [u8], out: &mut Out) -> Option<()> {
+pub fn emit(mut fields: Fields<'_>, scratch: &mut [u8], out: &mut Out) -> Option<()>
+    ensures { IfNone result (out.new ≡ out.old) }
+{
     let mesh = mesh(&mut fields)?;
     let broadcast = fields::optional_byte(&mut fields)?;
     let r = Relay { mesh, broadcast };

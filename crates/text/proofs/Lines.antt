@@ -1,7 +1,6 @@
 -- Where a byte stands first, and an unfinished line moved to the front.
 use Rattle.std.proofs.Common.{◌≡◌, ℕ, zero, suc, ◌+◌, ◌<◌, ◌≤◌, Bool, true, false, eqb, List, [], ◌∷◌, length, get_or, take, drop, set, sym, refl, ap, ◌∙◌, zero-add, add-one, arith, length-drop, drop_of_length-le, length-take-le, get_or-drop, drop-cons, drop-drop, drop-set-lt, eq-eqb, ne_eqb}
-use Rattle.std.proofs.Common.{◌-◌, ◌++◌, take_all}
-use Rattle.std.specs.List.{copy_within}
+use Rattle.std.proofs.Common.{◌++◌, append-nil}
 use Rattle.octets.specs.Write.{put}
 use Rattle.octets.proofs.Puts.{put_front}
 use Rattle.text.specs.Bytes.{index_of, index_after}
@@ -25,17 +24,36 @@ none_left b s i h =
     let z : index_of b (drop i s) ≡ 0 = ap (index_of b) (drop_of_length-le s h) in
     omega arith
 
--- ---- a move to the front
-pub moved_front : (from : ℕ) (s : List ℕ) → from < length s → copy_within s from (length s) 0 ≡ put 0 (drop from s) s
-moved_front from s h =
-    let n : length (drop from s) ≡ length s - from = length-drop from s in
-    ap (λ t. t ++ drop (0 + (length s - from)) s) (take_all (length s - from) (drop from s) (omega (arith, n)))
-    ∙ ap (λ k. drop from s ++ drop k s) (zero-add (length s - from) ∙ sym n)
-    ∙ sym (put_front (drop from s) s (omega (arith, n)))
+pub nothing_left : (b : ℕ) (s : List ℕ) → length s ≤ 0 → index_of b s ≡ length s
+unfolding index_of
+nothing_left b [] h = refl
+nothing_left b (x ∷ s) h = omega (arith, h)
 
-pub moved_none : (from : ℕ) (s : List ℕ) → length s ≤ from → s ≡ put 0 (drop from s) s
+-- ---- a move to the front
+pub unmoved : (was s : List ℕ) (i from : ℕ) → drop i s ≡ drop i was → get_or s (i + from) 0 ≡ get_or was (i + from) 0
+unmoved was s i from e = sym (get_or-drop i s from 0) ∙ ap (λ l. get_or l from 0) e ∙ get_or-drop i was from 0
+
+pub move_step : (was s : List ℕ) (i j g : ℕ) → j < length was → g ≡ get_or was j 0 → put (i + 1) (drop (j + 1) was) (set s i g) ≡ put i (drop j was) s
 unfolding put
-moved_none from s h = ap (λ l. put 0 l s) (sym (drop_of_length-le s h))
+move_step was s i j g h e =
+    ap (λ k. put (i + 1) (drop k was) (set s i g)) (add-one j)
+    ∙ ap (λ y. put (i + 1) (drop (suc j) was) (set s i y)) e
+    ∙ ap (λ l. put i l s) (sym (drop-cons was j 0 h))
+
+pub tail_step : (was s : List ℕ) (i g : ℕ) → drop i s ≡ drop i was → drop (i + 1) (set s i g) ≡ drop (i + 1) was
+tail_step was s i g e =
+    drop-set-lt (i + 1) s i g (omega arith)
+    ∙ sym (drop-drop 1 i s) ∙ ap (drop 1) e ∙ drop-drop 1 i was
+
+pub move-done : (was s : List ℕ) (i j : ℕ) → length was ≤ j → put i (drop j was) s ≡ s
+unfolding put
+move-done was s i j h = ap (λ l. put i l s) (drop_of_length-le was h)
+
+-- nothing moves where all stands at the front already
+pub moved_none : (s : List ℕ) → s ≡ put 0 s s
+moved_none s =
+    let e : length s ≤ length s = omega arith in
+    sym (put_front s s e ∙ ap (λ l. s ++ l) (drop_of_length-le s e) ∙ append-nil s)
 
 -- ---- a part that holds no b: the search goes on behind it
 after : (t : Bool) (p q k m : ℕ) → (p ≡ m → q ≡ m + k) → index_after t p ≡ suc m → index_after t q ≡ suc m + k

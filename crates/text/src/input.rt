@@ -1,6 +1,7 @@
 // Lines of input, each answered in its turn.
-ghost use Rattle.std.specs.Prelude.{◌≡◌, ◌≤◌, ◌+◌, ◌-◌, ◌<◌, ℕ, List, [], length, take, drop, IfSome, IfNone, OnOk};
-ghost use Rattle.text.specs.Waiting.{Grows};
+ghost use Rattle.std.specs.Prelude.{◌≡◌, ◌≤◌, ◌+◌, ◌-◌, ◌<◌, ℕ, List, [], length, take, drop, get_or};
+ghost use Rattle.std.specs.Prelude.{IfSome, IfNone, OnOk};
+ghost use Rattle.text.specs.Waiting.{with_text, Grows};
 ghost use Rattle.text.specs.Bytes.{index_of};
 ghost use Rattle.text.specs.Filling.{FilledTo};
 
@@ -19,19 +20,30 @@ pub trait Answers {
     // How many bytes an answer takes at most beyond the line itself.
     const LONGEST: usize;
 
+    // Whether reading goes on behind a last line that lacked its end. Somebody at a terminal may go on there; where
+    // nobody does, the end has to be said once more.
+    const READS_ON: bool = true;
+
+    // Whether a write that failed ends the answers to the lines that were read by then too. Else these are answered, and
+    // written if that goes well again; nothing more is read.
+    const STOPS_AT_ONCE: bool = true;
+
     // Puts the answer to a command, without a line feed. Where the line is none, None is answered and nothing put.
-    fn answer(&mut self, name: &[u8], fields: Fields<'_>, out: &mut Out) -> Option<()>;
+    fn answer(&mut self, name: &[u8], fields: Fields<'_>, out: &mut Out) -> Option<()>
+        ensures { IfNone result (out.new ≡ out.old) };
 }
 
 // No heap: the input, the output and what the lines say stand in rooms of a fixed size.
 //
-// The input that is read and not taken yet stands from `start` to `have`, and no line ends before `from`.
+// The input that is read and not taken yet stands from `start` to `have`, and no line ends before `from`. `closed`: the
+// last line got the end that it lacked.
 #[derive(Drop)]
 struct Input {
     room: [u8; ROOM],
     start: usize,
     from: usize,
     have: usize,
+    closed: bool,
 }
 
 impl Model for Input {
@@ -61,7 +73,14 @@ impl Input {
             start: 0,
             from: 0,
             have: 0,
+            closed: false,
         }
+    }
+
+    fn len(&self) -> usize
+        ensures { result ≡ length self.now }
+    {
+        self.have - self.start
     }
 
     // How long the next line is, if it has ended.
@@ -124,12 +143,15 @@ impl Input {
         }
         self.room[n] = b'\n';
         self.have = n + 1;
+        self.closed = true;
         Filled::More
     }
 }
 
 // A line that starts with `#` is answered by itself, and one that is no command by `bad`.
-fn answer_line<A: Answers>(answers: &mut A, line: &[u8], out: &mut Out) {
+fn answer_line<A: Answers>(answers: &mut A, line: &[u8], out: &mut Out)
+    ensures { get_or line.now 0 0 ≡ 35 → out.new ≡ with_text out.old line.now }
+{
     if at(line, 0) == b'#' {
         out.text(line);
         return;
@@ -172,6 +194,9 @@ fn turn<R: Read, W: Write, A: Answers>(
         return Ok(true);
     }
     out.flush(writer)?;
+    if input.closed && !A::READS_ON {
+        return Ok(false);
+    }
     let filled = input.fill(reader);
     if filled == Filled::Full {
         if !*skip {
@@ -182,9 +207,55 @@ fn turn<R: Read, W: Write, A: Answers>(
     Ok(filled != Filled::End)
 }
 
+// Answers lines as they come, until the input ends or a write fails.
+#[tactic(auto, using(crate::proofs::Waiting::grows_same))]
+fn answer_all<R: Read, W: Write, A: Answers>(
+    reader: &mut R,
+    writer: &mut W,
+    answers: &mut A,
+    input: &mut Input,
+    out: &mut Out,
+) -> io::Result<()>
+    ensures { OnOk result (Grows (W.contents writer.old) (W.contents writer.new)) }
+{
+    let mut skip = false;
+    // Nothing says that the input ends, so the turns are counted, to a number that no run reaches.
+    for _ in 0..u64::MAX {
+        if !turn(reader, writer, answers, input, out, &mut skip)? {
+            break;
+        }
+    }
+    Ok(())
+}
+
+// A write failed, and what waited is lost: the lines that were read are answered, and written as they were to be.
+fn answer_read<W: Write, A: Answers>(
+    writer: &mut W,
+    answers: &mut A,
+    input: &mut Input,
+    out: &mut Out,
+)
+    ensures { index_of 10 input.new ≡ length input.new }
+{
+    out.clear();
+    // A line takes a byte at least, so that there are no more of them than bytes.
+    for _ in 0..input.len() {
+        let Some(n) = input.line_len() else {
+            break;
+        };
+        if out.make_room(writer, n.saturating_add(A::LONGEST)).is_err() {
+            out.clear();
+        }
+        answer_line(answers, input.front(n), out);
+        out.put(b'\n');
+        input.pass_line(n);
+    }
+    // Nobody is left to be told.
+    let _ = out.flush(writer);
+}
+
 // Reads lines to the end and writes an answer to each, one that is too long by `bad long`. Answers wait while a line is
 // left that was read.
-#[tactic(auto, using(crate::proofs::Waiting::grows_same))]
 pub fn answer_each<R: Read, W: Write, A: Answers>(
     reader: &mut R,
     writer: &mut W,
@@ -194,12 +265,9 @@ pub fn answer_each<R: Read, W: Write, A: Answers>(
 {
     let mut input = Input::new();
     let mut out = Out::new();
-    let mut skip = false;
-    // Nothing says that the input ends, so the turns are counted, to a number that no run reaches.
-    for _ in 0..u64::MAX {
-        if !turn(reader, writer, answers, &mut input, &mut out, &mut skip)? {
-            break;
-        }
+    let answered = answer_all(reader, writer, answers, &mut input, &mut out);
+    if answered.is_err() && !A::STOPS_AT_ONCE {
+        answer_read(writer, answers, &mut input, &mut out);
     }
-    Ok(())
+    answered
 }

@@ -51,11 +51,15 @@ pub fn find(s: &[u8], from: usize, b: u8) -> usize
 }
 
 // Moves the bytes from a place on to the front; those behind them stay.
-#[tactic(auto, using(crate::proofs::Lines::moved_front, crate::proofs::Lines::moved_none))]
+// A loop and no `copy_within`, which moves a byte at a time where the two parts overlap; and nothing is touched where
+// they stand at the front.
 pub fn shift(s: &mut [u8], from: usize)
     ensures { s.new ≡ put 0 (drop from s.old) s.old }
 {
-    if from < s.len() {
-        s.copy_within(from.., 0);
+    if from == 0 {
+        return;
+    }
+    for j in from..s.len() {
+        s[j - from] = s[j];
     }
 }

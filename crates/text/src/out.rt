@@ -80,13 +80,20 @@ impl Out {
         self.len = print::decimal(&mut self.room, self.len, x);
     }
 
+    // Forgets what waits.
+    pub(crate) fn clear(&mut self)
+        ensures { self.new ≡ [] }
+    {
+        self.len = 0;
+    }
+
     // Writes out what waits.
     pub fn flush<W: Write>(&mut self, writer: &mut W) -> io::Result<()>
         ensures written { OnOk result (Appends (W.contents writer.old) (W.contents writer.new) self.old) }
         ensures emptied { OnOk result (self.new ≡ []) }
     {
         writer.write_all(field::upto(&self.room, self.len))?;
-        self.len = 0;
+        self.clear();
         Ok(())
     }
 

@@ -1,5 +1,5 @@
 use Rattle.text.proofs.Waiting.{grows_more}
-use Rattle.text.proofs.input.answer_each.Goals as goal
+use Rattle.text.proofs.input.answer_all.Goals as goal
 
 pub loop-preserved : goal.loop-preserved
 loop-preserved g c =
